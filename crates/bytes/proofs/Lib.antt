@@ -1,0 +1,3 @@
+pub mod Cutting
+pub mod Fitting
+pub mod LittleEndian

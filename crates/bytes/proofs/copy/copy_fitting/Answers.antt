@@ -1,0 +1,17 @@
+use mathlib.Core.Path.{_≡_, sym, ap, _∙_}
+use native.Mathlib.Nat.{sub-zero}
+use native.Mathlib.Omega.{arith}
+use lib.ListN.{length}
+use Rattle.bytes.proofs.Fitting.{fits-min, length-fits-min}
+use Rattle.bytes.proofs.copy.copy_fitting.Needs as need
+
+pub returns : need.returns
+returns c =
+    let room = length (c .args .into .now) in
+    let same = fits-min room (c .min-count .result) (c .args .from .now) (c .min-count .ensures) in
+    let long = length-fits-min room (c .min-count .result) (c .args .from .now) (c .min-count .ensures) in
+    record {
+      count = sym (ap length same ∙ long);
+      bytes = rw same (simp (sub-zero, c .copy-from-slice .ensures .after, long));
+      bound = omega arith;
+    }
