@@ -1,0 +1,4 @@
+pub mod Encoded
+pub mod Parsed
+pub mod Refusal
+pub mod Walk
