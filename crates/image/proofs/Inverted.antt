@@ -69,16 +69,16 @@ pub record File-read (test : Head → Bool) (rest : List ℕ) (e : Entry) (behin
   pub protected : e .file .protection ≡ ReadOnly
 
 -- what is read behind the head, behind the name and behind the bytes
-abbrev whole : Head × List ℕ → Name × List ℕ → List ℕ × List ℕ → Result (Entry × List ℕ) SpoiltImage
+abbrev pub whole : Head × List ℕ → Name × List ℕ → List ℕ × List ℕ → Result (Entry × List ℕ) SpoiltImage
 whole h n b = Ok (entry-of (h .0) (n .0) (b .0), b .1)
 
-abbrev body-read : Head × List ℕ → List ℕ → Option (List ℕ × List ℕ)
+abbrev pub body-read : Head × List ℕ → List ℕ → Option (List ℕ × List ℕ)
 body-read h bodies = read-field body-tag (λ bs. checked (right-body (h .0 .format)) (Some bs)) bodies
 
-abbrev named : ℕ → Head × List ℕ → Name × List ℕ → Result (Entry × List ℕ) SpoiltImage
+abbrev pub named : ℕ → Head × List ℕ → Name × List ℕ → Result (Entry × List ℕ) SpoiltImage
 named size h n = need size (n .1) (body-read h (n .1)) (whole h n)
 
-abbrev headed : ℕ → Head × List ℕ → Result (Entry × List ℕ) SpoiltImage
+abbrev pub headed : ℕ → Head × List ℕ → Result (Entry × List ℕ) SpoiltImage
 headed size h = need size (h .1) (read-field name-tag name-in (h .1)) (named size h)
 
 pub file-read : (test : Head → Bool) (size : ℕ) (rest : List ℕ) (e : Entry) (behind : List ℕ) → file-by test size rest ≡ Ok (e, behind) → File-read test rest e behind
@@ -109,3 +109,18 @@ file-read test size rest e behind q =
       protected = refl;
     } in
     subst (λ p. File-read test rest (p .0) (p .1)) (ok-same (d .2)) all
+
+-- and the way back: three fields that are read are a file
+pub read-there : {A : Type 0} (tag : ℕ) (read : List ℕ → Option A) (bs content behind : List ℕ) (x : A) → cut-field tag bs ≡ Some (content, behind) → read content ≡ Some x → read-field tag read bs ≡ Some (x, behind)
+read-there tag read bs content behind x e q =
+    ap (λ o. bind o (λ c. mapped (λ z. (z, c .1)) (read (c .0)))) e ∙ ap (mapped (λ z. (z, behind))) q
+
+pub checked-there : {A : Type 0} (test : A → Bool) (o : Option A) (x : A) → o ≡ Some x → test x ≡ true → checked test o ≡ Some x
+checked-there test o x e q = ap (checked test) e ∙ ap (λ t. cond t (Some x) None) q
+
+pub file-from : (test : Head → Bool) (size : ℕ) (rest : List ℕ) (h : Head) (names : List ℕ) (n : Name) (bodies b behind : List ℕ)
+    → read-field head-tag (λ bs. checked test (head-in bs)) rest ≡ Some (h, names) → read-field name-tag name-in names ≡ Some (n, bodies)
+    → read-field body-tag (λ bs. checked (right-body (h .format)) (Some bs)) bodies ≡ Some (b, behind) → file-by test size rest ≡ Ok (entry-of h n b, behind)
+file-from test size rest h names n bodies b behind x y z =
+    ap (λ o. need size rest o (headed size)) x ∙ ap (λ o. need size names o (named size (h, names))) y
+    ∙ ap (λ o. need size bodies o (whole (h, names) (n, bodies))) z

@@ -70,21 +70,21 @@ sofar-none image =
 
 module _ (size : ℕ) (es : List Entry) (rest : List ℕ) where
   -- nothing is left
-  from-none : (k : ℕ) → eqb (length rest) 0 ≡ true → files-from k size es rest ≡ Ok es
+  pub from-none : (k : ℕ) → eqb (length rest) 0 ≡ true → files-from k size es rest ≡ Ok es
   unfolding files-from
   from-none zero e = ap (λ t. cond t (Ok es) (Err (record { place = size - length rest }))) e
   from-none (suc k) e =
       ap (λ t. cond t (Ok es) (and-then (file-by (right-head es) size rest) (λ f. files-from k size (es ++ (f .0 ∷ [])) (f .1)))) e
 
   -- one file more
-  from-more : (k j : ℕ) → k ≡ suc j → eqb (length rest) 0 ≡ false → files-from k size es rest ≡ and-then (file-by (right-head es) size rest) (λ f. files-from j size (es ++ (f .0 ∷ [])) (f .1))
+  pub from-more : (k j : ℕ) → k ≡ suc j → eqb (length rest) 0 ≡ false → files-from k size es rest ≡ and-then (file-by (right-head es) size rest) (λ f. files-from j size (es ++ (f .0 ∷ [])) (f .1))
   unfolding files-from
   from-more k j q e =
       ap (λ i. files-from i size es rest) q
       ∙ ap (λ t. cond t (Ok es) (and-then (file-by (right-head es) size rest) (λ f. files-from j size (es ++ (f .0 ∷ [])) (f .1)))) e
 
   -- one file too many
-  from-full : (k : ℕ) → k ≡ 0 → eqb (length rest) 0 ≡ false → files-from k size es rest ≡ Err (record { place = size - length rest })
+  pub from-full : (k : ℕ) → k ≡ 0 → eqb (length rest) 0 ≡ false → files-from k size es rest ≡ Err (record { place = size - length rest })
   unfolding files-from
   from-full k q e =
       ap (λ i. files-from i size es rest) q ∙ ap (λ t. cond t (Ok es) (Err (record { place = size - length rest }))) e
@@ -101,7 +101,7 @@ ok-by-ok : {A B E : Type 0} (f : A → B) (r : Result A E) (y : B) → Ok y ≡ 
 ok-by-ok f (Ok x) y e = (x, refl, ok-same (sym e))
 ok-by-ok f (Err z) y e = absurd (err-ok (sym e))
 
-err-same : {A E : Type 0} {x y : E} → _≡_ {A = Result A E} (Err x) (Err y) → x ≡ y
+pub err-same : {A E : Type 0} {x y : E} → _≡_ {A = Result A E} (Err x) (Err y) → x ≡ y
 err-same e = cc
 
 ok-by-err : {A B E : Type 0} (f : A → B) (r : Result A E) (y : E) → Err y ≡ ok-by f r → r ≡ Err y
