@@ -1,5 +1,2 @@
-pub mod Encoded
-pub mod Images
-pub mod Parsed
-pub mod Refusal
-pub mod Walk
+pub mod Held
+pub mod HeldSound
