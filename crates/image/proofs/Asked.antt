@@ -50,7 +50,7 @@ opened image count sum h = by (parsed image) refl h
         let p = and-parts (eqb (length (c .files)) count) (eqb (total (c .files)) sum) h in
         record {
           files = a .0;
-          is = ap held-by q ∙ sym (a .1);
+          is = ap held-by q ∙ ap (λ d. full-of (d .files)) (sym (a .1));
           counted = ap (λ d. length (d .files)) (a .1) ∙ eqb-true (length (c .files)) count (p .0);
           summed = ap (λ d. total (d .files)) (a .1) ∙ eqb-true (total (c .files)) sum (p .1);
           ascending = a .2 .front .ascending;

@@ -11,10 +11,10 @@ use Rattle.image_format.specs.Parsed.{parsed, full-of}
 use Rattle.image_format.specs.declared.fault.SpoiltImage.{SpoiltImage}
 
 abbrev pub held-by : Result Contents SpoiltImage → Contents
-held-by (Ok c) = c
+held-by (Ok c) = full-of (c .files)
 held-by (Err e) = full-of []
 
--- what an image holds; a refused one holds nothing
+-- what an image holds; a refused one holds nothing. The store is full in either case
 abbrev pub held : List ℕ → Contents
 held image = held-by (parsed image)
 

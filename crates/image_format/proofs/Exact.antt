@@ -103,9 +103,10 @@ accepted image c e =
     let p = and-then-ok (files-from 1024 (length image) [] image) (λ es. Ok (full-of es)) c e in
     (p .0, ok-same (p .2), files-read 1024 (length image) [] image (p .0) (omega arith) front-none (omega arith) (p .1))
 
-pub accepted-sound : (image : List ℕ) (c : Contents) → parsed image ≡ Ok c → Sound c
-accepted-sound image c e =
-    let a = accepted image c e in subst Sound (a .1) (front-sound (a .0) (a .2 .front) (a .2 .few) (a .2 .small))
+-- the store of the files that were accepted
+pub accepted-full : (image : List ℕ) (c : Contents) → parsed image ≡ Ok c → Sound (full-of (c .files))
+accepted-full image c e =
+    let a = accepted image c e in subst (λ d. Sound (full-of (d .files))) (a .1) (front-sound (a .0) (a .2 .front) (a .2 .few) (a .2 .small))
 
 pub accepted-image : (image : List ℕ) (c : Contents) → Bytes image → parsed image ≡ Ok c → Is-image image c
 accepted-image image c b e =

@@ -1,6 +1,7 @@
 //! Walking over the files of an image.
 ghost use mathlib.Core.Path.{_≡_};
 ghost use denote.Ref.{now};
+ghost use lib.Dec.{ltb};
 ghost use Rattle.std.specs.Options.{mapped};
 ghost use Rattle.image_format.specs.Walk.{cut-record, sought, sought-at, plain-of};
 use crate::field::BODY;
@@ -29,6 +30,12 @@ pub fn cut_record(bytes: &[u8]) -> Option<(Record<'_>, &[u8])>
     Some((Record { head, name, body }, rest))
 }
 
+fn is_above(head: Head, number: u32) -> bool
+    ensures { λ r. ⌜ r ≡ ltb number (head .number) ⌝ }
+{
+    head.number > number
+}
+
 /// The first of the first `count` files whose number is above `number`.
 pub fn seek_above(image: &[u8], count: u32, number: u32) -> Option<Record<'_>>
     ensures { λ r. ⌜ mapped plain-of r ≡ sought count (now (image .entry)) number ⌝ }
@@ -36,7 +43,7 @@ pub fn seek_above(image: &[u8], count: u32, number: u32) -> Option<Record<'_>>
     let mut rest = image;
     for _passed in 0..count {
         let (record, behind) = cut_record(rest)?;
-        if record.head.number > number {
+        if is_above(record.head, number) {
             return Some(record);
         }
         rest = behind;

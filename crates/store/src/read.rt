@@ -1,8 +1,7 @@
 //! The questions that every store answers.
 ghost use mathlib.Core.Path.{_≡_};
-ghost use Prim.Native.Nat.{_≤_};
 ghost use lib.ListN.{length};
-ghost use Rattle.bytes.specs.Parts.{fitting, over};
+ghost use Rattle.bytes.specs.Parts.{Copied};
 ghost use Rattle.store.specs.Contents.{Contents, total, next-above, rest-of};
 ghost use Rattle.store.specs.Sound.{Sound};
 ghost use Rattle.store.specs.Infos.{described};
@@ -41,7 +40,5 @@ pub trait ReadStore {
     /// Copies a file's bytes from `offset` on to the front of `into`, as many as fit and as exist, and answers how many.
     /// None exist of an absent file or past the end. No further byte of `into` changes.
     fn copy(&self, number: u32, offset: u32, into: &mut [u8]) -> usize
-        ensures count { λ r. ⌜ r ≡ length (fitting (length (now (into .entry))) (rest-of number offset (contents (now (self .entry)) .files))) ⌝ }
-        ensures bytes { λ _. ⌜ now (into .exit) ≡ over (fitting (length (now (into .entry))) (rest-of number offset (contents (now (self .entry)) .files))) (now (into .entry)) ⌝ }
-        ensures bound { λ r. ⌜ r ≤ length (now (into .entry)) ⌝ };
+        ensures { λ r. ⌜ Copied (rest-of number offset (contents (now (self .entry)) .files)) (now (into .entry)) (now (into .exit)) r ⌝ };
 }

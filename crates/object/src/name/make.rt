@@ -60,11 +60,20 @@ impl Name {
         Name::from_units(&cells[0..count])
     }
 
+    // How many cells hold units.
+    fn used(&self) -> usize
+        ensures value { λ r. ⌜ r ≡ now (self .entry) .len ⌝ }
+        ensures bound { λ r. ⌜ (1 ≤ r) × (r ≤ 63) ⌝ }
+    {
+        self.len as usize
+    }
+
     /// The name's units.
     pub fn units(&self) -> &[u16]
         ensures value { λ r. ⌜ now r ≡ units-of (now (self .entry)) ⌝ }
         ensures bound { λ r. ⌜ (1 ≤ length (now r)) × (length (now r) ≤ 63) ⌝ }
     {
-        &self.units[0..self.len as usize]
+        let (units, _) = self.units.split_at(self.used());
+        units
     }
 }

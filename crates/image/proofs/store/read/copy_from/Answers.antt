@@ -10,4 +10,4 @@ pub returns-in-None : need.returns-in-None
 returns-in-None c =
     let none : take (length (c .args .into .now)) (drop (c .args .offset) (c .args .bytes .now)) ≡ [] =
     ap (take (length (c .args .into .now))) (drop-all (c .args .offset) (c .args .bytes .now) (omega (arith, c .in-None .ensures tt .cases))) ∙ take-nil (length (c .args .into .now)) in
-    record { count = ap length (sym none); bytes = ap (λ z. z ++ drop (length z) (c .args .into .now)) (sym none); bound = omega arith }
+    record { counts = ap length (sym none); bytes = ap (λ z. z ++ drop (length z) (c .args .into .now)) (sym none); bound = omega arith }

@@ -9,7 +9,7 @@ use Rattle.store.specs.Contents.{bytes-of, rest-of}
 use Rattle.image_format.specs.Walk.{plain-of}
 use Rattle.image.specs.Held.{held}
 use Rattle.image.proofs.Asked.{told-some, told-none}
-use Rattle.image.proofs.store.read.ImageRead.copy.Needs as need
+use Rattle.image.proofs.store.ImageStore.copy_rest.Needs as need
 
 pub returns-in-Some : need.returns-in-Some
 returns-in-Some c =
@@ -19,7 +19,7 @@ returns-in-Some c =
     let same : drop (c .args .offset) (found .body) ≡ rest-of (c .args .number) (c .args .offset) (held (now (s .image)) .files) =
     ap (drop (c .args .offset)) (t .2 .body ∙ sym (ap bytes-of (t .1))) in
     record {
-      count = c .copy-from .ensures .count ∙ ap (λ l. length (fitting (length (c .args .into .now)) l)) same;
+      counts = c .copy-from .ensures .counts ∙ ap (λ l. length (fitting (length (c .args .into .now)) l)) same;
       bytes = c .copy-from .ensures .bytes ∙ ap (λ l. over (fitting (length (c .args .into .now)) l) (c .args .into .now)) same;
       bound = c .copy-from .ensures .bound;
     }
@@ -31,4 +31,4 @@ returns-in-None c =
     let none : fitting (length (c .args .into .now)) (rest-of (c .args .number) (c .args .offset) (held (now (s .image)) .files)) ≡ [] =
     ap (λ o. fitting (length (c .args .into .now)) (drop (c .args .offset) (bytes-of o))) t
     ∙ ap (take (length (c .args .into .now))) (drop-nil (c .args .offset)) ∙ take-nil (length (c .args .into .now)) in
-    record { count = ap length (sym none); bytes = ap (λ l. over l (c .args .into .now)) (sym none); bound = omega arith }
+    record { counts = ap length (sym none); bytes = ap (λ l. over l (c .args .into .now)) (sym none); bound = omega arith }

@@ -9,7 +9,7 @@ use Rattle.bytes.proofs.Cutting.{none-some}
 use Rattle.store.specs.Infos.{info-of}
 use Rattle.image_format.specs.Walk.{plain-of}
 use Rattle.image.proofs.Asked.{told-some, told-none, body-short, info-told}
-use Rattle.image.proofs.store.read.ImageRead.describe.Needs as need
+use Rattle.image.proofs.store.ImageStore.info.Needs as need
 
 pub returns-in-Break-record : need.returns-in-Break-record
 returns-in-Break-record c =

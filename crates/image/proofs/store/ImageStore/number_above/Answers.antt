@@ -1,7 +1,7 @@
 use mathlib.Core.Path.{sym, ap, _∙_}
 use denote.Ref.{now}
 use Rattle.image.proofs.Asked.{number-in, asked-next}
-use Rattle.image.proofs.store.read.ImageRead.next_above.Needs as need
+use Rattle.image.proofs.store.ImageStore.number_above.Needs as need
 
 pub returns-in-Break-record : need.returns-in-Break-record
 returns-in-Break-record c =
