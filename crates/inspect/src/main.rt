@@ -5,8 +5,9 @@ use crate::request::Request;
 use crate::request::USAGE;
 use crate::request::argument_of;
 use std::env;
-use std::fs;
+use std::fs::File;
 use std::io;
+use std::io::Read;
 
 mod listing;
 mod report;
@@ -31,9 +32,19 @@ fn is_failure(outcome: Outcome, is_strict: bool) -> bool {
     }
 }
 
-/// Prints what one image holds, or that its file cannot be read.
-fn inspect(rt: &LibcRuntime, path: &str) -> io::Result<Outcome> {
-    let image = match fs::read(rt, path) {
+/// The bytes of a file, read in one piece where its size is known beforehand.
+fn read_image(rt: &LibcRuntime, path: &str) -> io::Result<Vec<u8>> {
+    let mut file = File::open(rt, path)?;
+    let size = file.metadata()?.len() as usize;
+    let mut image = vec![in rt.alloc(); 0u8; size]?;
+    file.read_exact(image.as_mut_slice())?;
+    file.read_to_end(&mut image)?;
+    Ok(image)
+}
+
+/// Prints what one image holds, or that its file cannot be read. `gap` stands before what is printed.
+fn inspect(rt: &LibcRuntime, gap: &str, path: &str) -> io::Result<Outcome> {
+    let image = match read_image(rt, path) {
         Ok(image) => image,
         Err(error) => {
             eprintln!(rt, "inspect: {path}: {error}")?;
@@ -42,7 +53,7 @@ fn inspect(rt: &LibcRuntime, path: &str) -> io::Result<Outcome> {
     };
     let report = report_of(rt.alloc(), image.as_slice())?;
     let text = report.text.as_str();
-    print!(rt, "{path}\n{text}")?;
+    print!(rt, "{gap}{path}\n{text}")?;
     if report.is_refused {
         Ok(Outcome::Refused)
     } else {
@@ -53,18 +64,27 @@ fn inspect(rt: &LibcRuntime, path: &str) -> io::Result<Outcome> {
 /// Inspects every file among the arguments, and then answers whether one failed.
 fn inspect_all(rt: &LibcRuntime, words: &[String], is_strict: bool) -> io::Result<bool> {
     let mut has_failed = false;
-    let mut is_first = true;
+    let mut gap = "";
     for word in words {
         if let Argument::File = argument_of(word.as_str()) {
-            if !is_first {
-                println!(rt)?;
-            }
-            is_first = false;
-            let outcome = inspect(rt, word.as_str())?;
+            let outcome = inspect(rt, gap, word.as_str())?;
             has_failed = is_failure(outcome, is_strict) || has_failed;
+            if !matches!(outcome, Outcome::Unread) {
+                gap = "\n";
+            }
         }
     }
     Ok(has_failed)
+}
+
+/// Says what is wrong with the arguments.
+fn explain(rt: &LibcRuntime, words: &[String]) -> io::Result<()> {
+    for word in words {
+        if let Argument::Unknown = argument_of(word.as_str()) {
+            eprintln!(rt, "inspect: unknown option {word}")?;
+        }
+    }
+    rt.eprint(USAGE)
 }
 
 /// Does what the arguments ask for, and answers whether it failed.
@@ -75,7 +95,7 @@ fn run(rt: &LibcRuntime, words: &[String]) -> io::Result<bool> {
         return Ok(false);
     }
     if !request.is_right() {
-        rt.eprint(USAGE)?;
+        explain(rt, words)?;
         return Ok(true);
     }
     inspect_all(rt, words, request.is_strict)

@@ -22,7 +22,7 @@ fn totals_of<S: ReadStore>(heap: Global, store: &S) -> Result<String, AllocError
     let limit = store.limit();
     format!(
         heap,
-        "files {count}, bytes {total}; capacity {capacity} bytes, limit {limit} files\n"
+        "files {count} (limit {limit}), bytes {total} (capacity {capacity})\n"
     )
 }
 
