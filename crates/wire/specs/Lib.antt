@@ -1,6 +1,8 @@
 pub mod Containers
 pub mod DeviceInfos
+pub mod Faults
 pub mod ObjectInfos
 pub mod Operations
+pub mod Payloads
 pub mod StorageInfos
 pub mod Strings

@@ -1,4 +1,7 @@
 //! What crosses the cable: containers, strings, arrays and datasets.
 pub mod command;
+pub mod container;
+pub mod fault;
 pub mod info;
 pub mod operation;
+mod read;

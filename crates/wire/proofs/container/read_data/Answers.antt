@@ -1,0 +1,11 @@
+use borrow.Author.Needs.{needs}
+use Rattle.wire.specs.Containers.{payload-in}
+use Rattle.wire.proofs.container.read_data.Needs as need
+
+pub returns-then-not-is-data : need.returns-then-not-is-data
+unfolding payload-in
+returns-then-not-is-data c = search needs
+
+pub returns : need.returns
+unfolding payload-in
+returns c = search needs
