@@ -6,3 +6,4 @@ pub mod Operations
 pub mod Payloads
 pub mod StorageInfos
 pub mod Strings
+pub mod Writing

@@ -4,4 +4,5 @@ pub mod container;
 pub mod fault;
 pub mod info;
 pub mod operation;
+mod put;
 mod read;
