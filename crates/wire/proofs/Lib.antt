@@ -1,2 +1,4 @@
 pub mod Places
 pub mod Puts
+pub mod Rows
+pub mod Units

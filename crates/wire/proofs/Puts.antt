@@ -2,7 +2,7 @@
 use mathlib.Core.Path.{_≡_, refl, sym, ap, subst, _∙_}
 use mathlib.Core.List.{List, [], _∷_, _++_, append-assoc}
 use Prim.Native.Nat.{ℕ, suc, _+_, _*_, _/_, _%_, _≤_, _<_}
-use native.Mathlib.Nat.{add-assoc, add-zero, zero-add, div-div-eq-div-mul}
+use native.Mathlib.Nat.{add-assoc, add-zero, zero-add, mul-le-mul-left, div-div-eq-div-mul}
 use native.Mathlib.Omega.{arith}
 use lib.ListN.{length, take, drop, getD, length-append, length-take, length-drop, take-append-drop}
 use Rattle.std.proofs.shelf.Lists.{take-at, drop-at, drop-drop, take-more, take-all, length-take-le}
@@ -90,7 +90,7 @@ module _ (k i : ℕ) (ns : List ℕ) {place next : ℕ} {xs ys : List ℕ} (w : 
   numbers-room h room =
       let a = length-numbers k (take i ns) in
       let b = length-take-le i ns (omega arith) in
-      let c : k * (i + 1) ≤ k * length ns = grind arith in
+      let c = mul-le-mul-left {m = i + 1} {n = length ns} k (omega arith) in
       let d : k * (i + 1) ≡ k * i + k = grind arith in
       let e : k * length (take i ns) ≡ k * i = ap (λ m. k * m) b in
       omega (arith, w .behind, length-put w)

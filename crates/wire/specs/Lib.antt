@@ -6,4 +6,5 @@ pub mod Operations
 pub mod Payloads
 pub mod StorageInfos
 pub mod Strings
+pub mod Texts
 pub mod Writing

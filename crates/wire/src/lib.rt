@@ -6,3 +6,4 @@ pub mod info;
 pub mod operation;
 mod put;
 mod read;
+pub mod string;

@@ -1,4 +1,6 @@
 //! The operations that the responder knows.
+ghost use mathlib.Core.Path.{_≡_};
+ghost use Rattle.wire.specs.Operations.{operation-of};
 
 /// One operation: its code, and how many parameters it has.
 #[derive(Clone, Copy)]
@@ -82,3 +84,15 @@ pub const OPERATIONS: [Operation; 12] = [
         parameters: 3,
     },
 ];
+
+/// The operation with this code, if it is known.
+pub fn operation_of(code: u16) -> Option<Operation>
+    ensures { λ r. ⌜ r ≡ operation-of code ⌝ }
+{
+    for operation in &OPERATIONS {
+        if operation.code == code {
+            return Some(*operation);
+        }
+    }
+    None
+}
