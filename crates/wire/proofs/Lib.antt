@@ -1,3 +1,4 @@
+pub mod Infos
 pub mod Places
 pub mod Puts
 pub mod Rows

@@ -6,6 +6,7 @@ use Prim.Native.Nat.{ℕ, zero, suc, _+_, _*_, _-_, _≤_, _<_}
 use native.Mathlib.Omega.{arith}
 use lib.Dec.{eqb}
 use lib.ListN.{length, take}
+use Rattle.std.specs.Options.{mapped}
 use Rattle.std.specs.declared.option.Option.{Option}
 use Rattle.std.specs.declared.option.Option.the-variants.{Some, None}
 use Rattle.std.proofs.shelf.Lists.{append-nil, length-append, take-at}
@@ -14,7 +15,7 @@ use Rattle.bytes.specs.Numbers.{cut-number}
 use Rattle.bytes.proofs.Cutting.{none-some, some-same, through}
 use Rattle.object.specs.Names.{with-units, units-in}
 use Rattle.wire.specs.Strings.{Read, with-unit, closed-units, string-in}
-use Rattle.wire.specs.Texts.{read-before}
+use Rattle.wire.specs.Texts.{read-parts}
 
 -- us before the units of a reading that went well
 abbrev with-all : List ℕ → Option Read → Option Read
@@ -121,12 +122,11 @@ module _ (bytes : List ℕ) (count : ℕ) (rest : List ℕ) (left : ℕ) (s : So
         let f = front-of rest after u e in
         sym (s .reads ∙ ap (with-all (s .units)) ((λ i. closed-units (h i) (f .is i)) ∙ cond-false _ _ _ (ne-eqb _ 0 (λ q. z (sym (f .unit) ∙ q)))) ∙ with-all-none (s .units))
 
-    pub sofar-closed : left ≡ 0 → u ≡ 0 → read-before after (units-in (take (2 * count) bytes)) ≡ closed-units count bytes
+    pub sofar-closed : left ≡ 0 → u ≡ 0 → Some (units-in (take (2 * count) bytes), after) ≡ mapped read-parts (closed-units count bytes)
     sofar-closed h z =
         let f = front-of rest after u e in
-        ap (λ l. read-before after (units-in l)) (ap (take (2 * count)) (s .is) ∙ take-at (s .front) rest (2 * count) (omega (arith, s .long)))
-        ∙ ap (read-before after) (s .holds)
-        ∙ sym (s .reads ∙ ap (with-all (s .units)) ((λ i. closed-units (h i) (f .is i)) ∙ cond-true _ _ _ (eq-eqb _ 0 (f .unit ∙ z))) ∙ with-all-end (s .units) after)
+        (λ i. Some ((ap units-in (ap (take (2 * count)) (s .is) ∙ take-at (s .front) rest (2 * count) (omega (arith, s .long))) ∙ s .holds) i, after))
+        ∙ ap (mapped read-parts) (sym (s .reads ∙ ap (with-all (s .units)) ((λ i. closed-units (h i) (f .is i)) ∙ cond-true _ _ _ (eq-eqb _ 0 (f .unit ∙ z))) ∙ with-all-end (s .units) after))
 
 -- a count of two or more, and what it counts
 pub string-counted : (bs rest : List ℕ) (count : ℕ) → Some (count, rest) ≡ cut-number 1 bs → 2 ≤ count → closed-units (count - 1) rest ≡ string-in bs

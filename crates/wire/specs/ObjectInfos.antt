@@ -41,6 +41,10 @@ are-strings zero [] = true
 are-strings zero (b ∷ bs) = false
 are-strings (suc n) bs = rest-is (λ rest. are-strings n rest) (string-in bs)
 
+-- the protection in the dataset, if there is such a one
+abbrev pub protection-at : List ℕ → Option Protection
+protection-at bs = protection-of (number-at 2 6 bs)
+
 abbrev pub info-from : List ℕ → Option Protection → Option Name → Option ObjectInfo
 info-from bs None name = None
 info-from bs (Some p) None = None
@@ -49,7 +53,7 @@ info-from bs (Some p) (Some n) =
 
 abbrev pub info-named : List ℕ → Option Read → Option ObjectInfo
 info-named bs None = None
-info-named bs (Some r) = cond (are-strings 3 (r .rest)) (info-from bs (protection-of (number-at 2 6 bs)) (named (r .units))) None
+info-named bs (Some r) = cond (are-strings 3 (r .rest)) (info-from bs (protection-at bs) (named (r .units))) None
 
 -- the reader: the fixed part, a legal name, three strings, and no byte beyond
 unfoldable pub object-info-in : List ℕ → Option ObjectInfo

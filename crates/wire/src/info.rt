@@ -1,4 +1,6 @@
 //! Datasets as records.
+pub mod read;
+
 use object::name::Name;
 use object::protection::Protection;
 

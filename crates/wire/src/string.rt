@@ -1,8 +1,9 @@
 //! Strings: a count of units with the closing 0, the units, the closing 0.
 ghost use mathlib.Core.Path.{_≡_};
 ghost use Prim.Native.Nat.{_<_};
+ghost use Rattle.std.specs.Options.{mapped};
 ghost use Rattle.wire.specs.Strings.{closed-units, string-in};
-ghost use Rattle.wire.specs.Texts.{seen-text};
+ghost use Rattle.wire.specs.Texts.{text-parts, read-parts};
 use bytes::cut::{cut_u8, cut_u16};
 
 /// A string at the front of the caller's bytes: its units, two bytes each with the lower one first and without the closing
@@ -16,7 +17,7 @@ pub struct Text<'a> {
 /// Reads `count` units other than 0, then a 0.
 fn read_units(bytes: &[u8], count: usize) -> Option<Text<'_>>
     requires { ⌜ count < 256 ⌝ }
-    ensures { λ r. ⌜ seen-text r ≡ closed-units count (now (bytes .entry)) ⌝ }
+    ensures { λ r. ⌜ mapped text-parts r ≡ mapped read-parts (closed-units count (now (bytes .entry))) ⌝ }
 {
     let mut rest = bytes;
     let mut left = count;
@@ -41,7 +42,7 @@ fn read_units(bytes: &[u8], count: usize) -> Option<Text<'_>>
 
 /// Reads the string at the front, if it is well formed.
 pub fn read_string(bytes: &[u8]) -> Option<Text<'_>>
-    ensures { λ r. ⌜ seen-text r ≡ string-in (now (bytes .entry)) ⌝ }
+    ensures { λ r. ⌜ mapped text-parts r ≡ mapped read-parts (string-in (now (bytes .entry))) ⌝ }
 {
     let (count, rest) = cut_u8(bytes)?;
     match count {

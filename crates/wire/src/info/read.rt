@@ -1,0 +1,61 @@
+//! The reader of an ObjectInfo.
+ghost use mathlib.Core.Path.{_≡_};
+ghost use Prim.Native.Nat.{_<_};
+ghost use Rattle.std.specs.Options.{okOr};
+ghost use Rattle.wire.specs.declared.fault.DatasetFault.the-variants.{InvalidDataset};
+ghost use Rattle.wire.specs.ObjectInfos.{are-strings, object-info-in};
+use crate::fault::DatasetFault;
+use crate::info::ObjectInfo;
+use crate::read::{u16_at, u32_at};
+use crate::string::read_string;
+use bytes::cut::cut;
+use object::name::Name;
+use object::protection::Protection;
+
+/// How long the fields of fixed width are.
+const FIXED: usize = 52;
+
+/// Whether the bytes are `count` strings and nothing else.
+fn are_strings(count: usize, bytes: &[u8]) -> bool
+    ensures { λ r. ⌜ r ≡ are-strings count (now (bytes .entry)) ⌝ }
+{
+    let mut rest = bytes;
+    let mut left = count;
+    while left > 0 {
+        match read_string(rest) {
+            Some(text) => rest = text.rest,
+            None => return false,
+        }
+        left -= 1;
+    }
+    rest.is_empty()
+}
+
+fn read_info(bytes: &[u8]) -> Option<ObjectInfo>
+    ensures { λ r. ⌜ r ≡ object-info-in (now (bytes .entry)) ⌝ }
+{
+    let (_, strings) = cut(bytes, FIXED)?;
+    let filename = read_string(strings)?;
+    if !are_strings(3, filename.rest) {
+        return None;
+    }
+    let protection = Protection::from_number(u16_at(bytes, 6))?;
+    let name = Name::from_bytes(filename.units)?;
+    Some(ObjectInfo {
+        storage: u32_at(bytes, 0),
+        format: u16_at(bytes, 4),
+        protection,
+        size: u32_at(bytes, 8),
+        parent: u32_at(bytes, 38),
+        name,
+    })
+}
+
+impl ObjectInfo {
+    /// What the dataset says, if it is well formed and nothing lies behind it.
+    pub fn read(bytes: &[u8]) -> Result<ObjectInfo, DatasetFault>
+        ensures { λ r. ⌜ r ≡ okOr (object-info-in (now (bytes .entry))) InvalidDataset ⌝ }
+    {
+        read_info(bytes).ok_or(DatasetFault::InvalidDataset)
+    }
+}
