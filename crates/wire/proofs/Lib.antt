@@ -1,4 +1,5 @@
 pub mod Infos
+pub mod Placed
 pub mod Places
 pub mod Puts
 pub mod Rows

@@ -33,6 +33,10 @@ unfoldable pub container : ℕ → ℕ → ℕ → List ℕ → List ℕ
 container kind code transaction payload =
     le 4 (12 + length payload) ++ (le 2 kind ++ (le 2 code ++ (le 4 transaction ++ payload)))
 
+-- the head of a container whose payload has so many bytes
+unfoldable pub head : ℕ → ℕ → ℕ → ℕ → List ℕ
+head kind code transaction len = le 4 (12 + len) ++ (le 2 kind ++ (le 2 code ++ le 4 transaction))
+
 -- the bytes are one container of this type
 abbrev pub is-container : ℕ → List ℕ → Bool
 is-container kind bs = leb 12 (length bs) && (eqb (number-at 4 0 bs) (length bs) && eqb (number-at 2 4 bs) kind)

@@ -3,6 +3,7 @@ pub mod DeviceInfos
 pub mod Faults
 pub mod ObjectInfos
 pub mod Operations
+pub mod Parameters
 pub mod Payloads
 pub mod StorageInfos
 pub mod Strings

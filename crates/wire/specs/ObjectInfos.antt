@@ -24,12 +24,16 @@ abbrev pub unkept : ℕ → List ℕ
 unkept k = le k 0
 
 -- storage, format, protection, size, thumb format, thumb size, thumb width, thumb height, image width, image height, image
--- depth, parent, association type, association description, sequence number, then the name and three empty strings
-unfoldable pub object-info : ObjectInfo → List ℕ
-object-info i =
+-- depth, parent, association type, association description, sequence number
+abbrev pub object-fields : ObjectInfo → List ℕ
+object-fields i =
     le 4 (i .storage) ++ (le 2 (i .format) ++ (le 2 (protection-number (i .protection)) ++ (le 4 (i .size) ++ (unkept 2 ++ (unkept 4
     ++ (unkept 4 ++ (unkept 4 ++ (unkept 4 ++ (unkept 4 ++ (unkept 4 ++ (le 4 (i .parent) ++ (le 2 (association-type (i .format))
-    ++ (unkept 4 ++ (unkept 4 ++ (string (units-of (i .name)) ++ (string [] ++ (string [] ++ string [])))))))))))))))))
+    ++ (unkept 4 ++ unkept 4)))))))))))))
+
+-- the fields, the name and three empty strings
+unfoldable pub object-info : ObjectInfo → List ℕ
+object-info i = object-fields i ++ (string (units-of (i .name)) ++ (string [] ++ (string [] ++ string [])))
 
 abbrev pub rest-is : (List ℕ → Bool) → Option Read → Bool
 rest-is test None = false

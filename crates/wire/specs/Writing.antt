@@ -28,3 +28,12 @@ placed-in room bs out = cond (leb room (length out)) (Ok (length bs), over bs ou
 -- bs at the front of a buffer that holds them, or a refusal that touches nothing
 abbrev pub placed : List ℕ → List ℕ → Result ℕ DatasetFault × List ℕ
 placed bs out = placed-in (length bs) bs out
+
+-- bs at the front of a buffer that is known to hold them: how many, and the buffer
+abbrev pub written : List ℕ → List ℕ → ℕ × List ℕ
+written bs out = (length bs, over bs out)
+
+-- bs at a place of a buffer: the place behind them, and the buffer; else a refusal, and the buffer as it was
+abbrev pub placed-at : ℕ → List ℕ → List ℕ → Result ℕ DatasetFault × List ℕ
+placed-at place bs out =
+    cond (leb (place + length bs) (length out)) (Ok (place + length bs), put place bs out) (Err BufferTooShort, out)

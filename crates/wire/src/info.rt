@@ -1,5 +1,6 @@
 //! Datasets as records.
 pub mod read;
+pub mod write;
 
 use object::name::Name;
 use object::protection::Protection;

@@ -1,0 +1,56 @@
+//! The writer of a response.
+ghost use mathlib.Core.Path.{_≡_};
+ghost use mathlib.Core.List.{_∷_, []};
+ghost use Prim.Native.Nat.{_≤_};
+ghost use lib.ListN.{length};
+ghost use Rattle.wire.specs.Containers.{response};
+ghost use Rattle.wire.specs.Parameters.{listed};
+ghost use Rattle.wire.specs.Writing.{written};
+use crate::container::RESPONSE;
+use crate::put::{put_head, put_u32s};
+use crate::response::Parameters;
+
+impl Parameters {
+    pub fn none() -> Parameters
+        ensures { λ r. ⌜ listed r ≡ [] ⌝ }
+    {
+        Parameters {
+            values: [0; 5],
+            count: 0,
+        }
+    }
+
+    pub fn one(first: u32) -> Parameters
+        ensures { λ r. ⌜ listed r ≡ first ∷ [] ⌝ }
+    {
+        Parameters {
+            values: [first, 0, 0, 0, 0],
+            count: 1,
+        }
+    }
+
+    pub fn three(first: u32, second: u32, third: u32) -> Parameters
+        ensures { λ r. ⌜ listed r ≡ first ∷ second ∷ third ∷ [] ⌝ }
+    {
+        Parameters {
+            values: [first, second, third, 0, 0],
+            count: 3,
+        }
+    }
+
+    pub fn list(&self) -> &[u32]
+        ensures value { λ r. ⌜ now r ≡ listed (now (self .entry)) ⌝ }
+        ensures few { λ r. ⌜ length (now r) ≤ 5 ⌝ }
+    {
+        &self.values[0..self.count as usize]
+    }
+}
+
+/// Writes the response to the front of `out`, whose rest stays, and answers its length.
+pub fn write_response(out: &mut [u8; 32], code: u16, transaction: u32, parameters: &Parameters) -> usize
+    ensures { λ r. ⌜ (r, now (out .exit)) ≡ written (response code transaction (listed (now (parameters .entry)))) (now (out .entry)) ⌝ }
+{
+    let list = parameters.list();
+    let next = put_head(out, RESPONSE, code, transaction, 4 * list.len());
+    put_u32s(out, next, list)
+}
