@@ -1,3 +1,4 @@
+pub mod Datasets
 pub mod Infos
 pub mod Placed
 pub mod Places

@@ -1,4 +1,5 @@
 //! Datasets as records.
+pub mod device;
 pub mod read;
 pub mod write;
 

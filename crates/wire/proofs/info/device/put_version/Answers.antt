@@ -1,0 +1,5 @@
+use Rattle.wire.proofs.Puts.{put-then}
+use Rattle.wire.proofs.info.device.put_version.Needs as need
+
+pub returns : need.returns
+returns c = put-then (c .put-u16-next .ensures) (put-then (c .put-u32-next .ensures) (put-then (c .put-u16-next-2 .ensures) (put-then (c .put-u8-next .ensures) (c .put-u16 .ensures))))
