@@ -1,7 +1,9 @@
 pub mod Datasets
 pub mod Infos
+pub mod InfosBack
 pub mod Placed
 pub mod Places
 pub mod Puts
+pub mod ReadBack
 pub mod Rows
 pub mod Units
