@@ -3,6 +3,7 @@ ghost use mathlib.Core.Path.{_≡_};
 ghost use Rattle.std.specs.Options.{okOr};
 ghost use Rattle.wire.specs.Containers.{is-command, command-in};
 ghost use Rattle.wire.specs.Faults.{stray};
+ghost use Rattle.wire.specs.Laws.{Commands-read-back};
 use crate::container::{COMMAND, is_container};
 use crate::fault::StrayContainer;
 use crate::read::{u16_at, u32_at};
@@ -25,7 +26,8 @@ fn is_command(bytes: &[u8]) -> bool
 impl Command {
     /// The command that `bytes` are, if they are one command container and nothing else.
     pub fn read(bytes: &[u8]) -> Result<Command, StrayContainer>
-        ensures { λ r. ⌜ r ≡ okOr (command-in (now (bytes .entry))) stray ⌝ }
+        ensures value { λ r. ⌜ r ≡ okOr (command-in (now (bytes .entry))) stray ⌝ }
+        ensures law { λ _. ⌜ Commands-read-back ⌝ }
     {
         if !is_command(bytes) {
             return Err(StrayContainer);

@@ -3,6 +3,7 @@ ghost use mathlib.Core.Path.{_≡_};
 ghost use Rattle.std.specs.Options.{okOr};
 ghost use Rattle.wire.specs.declared.fault.DatasetFault.the-variants.{IncompleteTransfer};
 ghost use Rattle.wire.specs.Containers.{is-container, is-data, payload-in};
+ghost use Rattle.wire.specs.Laws.{Data-reads-back};
 ghost use Rattle.wire.specs.Payloads.{seen-payload, behind-head};
 use crate::fault::DatasetFault;
 use crate::read::{u16_at, u32_at};
@@ -39,7 +40,8 @@ fn is_data(bytes: &[u8], code: u16, transaction: u32) -> bool
 
 /// The payload of the one data container that `bytes` are, if it has this code and transaction.
 pub fn read_data(bytes: &[u8], code: u16, transaction: u32) -> Result<Payload<'_>, DatasetFault>
-    ensures { λ r. ⌜ seen-payload r ≡ okOr (behind-head (payload-in code transaction (now (bytes .entry)))) IncompleteTransfer ⌝ }
+    ensures value { λ r. ⌜ seen-payload r ≡ okOr (behind-head (payload-in code transaction (now (bytes .entry)))) IncompleteTransfer ⌝ }
+    ensures law { λ _. ⌜ Data-reads-back ⌝ }
 {
     if !is_data(bytes, code, transaction) {
         return Err(DatasetFault::IncompleteTransfer);

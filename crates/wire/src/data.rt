@@ -4,6 +4,7 @@ ghost use Prim.Native.Nat.{_+_};
 ghost use lib.ListN.{length};
 ghost use Rattle.bytes.specs.Numbers.{le};
 ghost use Rattle.wire.specs.Containers.{data-container, data-type, head};
+ghost use Rattle.wire.specs.Laws.{Heads-join, Arrays-read-back};
 ghost use Rattle.wire.specs.Strings.{array};
 ghost use Rattle.wire.specs.Writing.{placed, placed-in, placed-at};
 use crate::container::{DATA, HEAD};
@@ -13,7 +14,8 @@ use crate::put::{put_array, put_head, put_u32};
 /// Writes the head of a data container whose payload has `len` bytes, if the buffer holds the whole container. The payload
 /// belongs at the place that this answers.
 pub fn write_data_head(out: &mut [u8], code: u16, transaction: u32, len: usize) -> Result<usize, DatasetFault>
-    ensures { λ r. ⌜ (r, now (out .exit)) ≡ placed-in (12 + len) (head data-type code transaction len) (now (out .entry)) ⌝ }
+    ensures value { λ r. ⌜ (r, now (out .exit)) ≡ placed-in (12 + len) (head data-type code transaction len) (now (out .entry)) ⌝ }
+    ensures whole { λ _. ⌜ Heads-join ⌝ }
 {
     if out.len() < HEAD || out.len() - HEAD < len {
         return Err(DatasetFault::BufferTooShort);
@@ -33,7 +35,8 @@ pub fn write_number(out: &mut [u8], place: usize, number: u32) -> Result<usize, 
 
 /// Writes an array of handles or of storage ids.
 pub fn write_array(out: &mut [u8], code: u16, transaction: u32, list: &[u32]) -> Result<usize, DatasetFault>
-    ensures { λ r. ⌜ (r, now (out .exit)) ≡ placed (data-container code transaction (array 4 (now (list .entry)))) (now (out .entry)) ⌝ }
+    ensures value { λ r. ⌜ (r, now (out .exit)) ≡ placed (data-container code transaction (array 4 (now (list .entry)))) (now (out .entry)) ⌝ }
+    ensures law { λ _. ⌜ Arrays-read-back ⌝ }
 {
     let count = list.len();
     if out.len() / 4 < count {

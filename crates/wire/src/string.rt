@@ -2,6 +2,7 @@
 ghost use mathlib.Core.Path.{_≡_};
 ghost use Prim.Native.Nat.{_<_};
 ghost use Rattle.std.specs.Options.{mapped};
+ghost use Rattle.wire.specs.Laws.{Strings-read-back};
 ghost use Rattle.wire.specs.Strings.{closed-units, string-in};
 ghost use Rattle.wire.specs.Texts.{text-parts, read-parts};
 use bytes::cut::{cut_u8, cut_u16};
@@ -42,7 +43,8 @@ fn read_units(bytes: &[u8], count: usize) -> Option<Text<'_>>
 
 /// Reads the string at the front, if it is well formed.
 pub fn read_string(bytes: &[u8]) -> Option<Text<'_>>
-    ensures { λ r. ⌜ mapped text-parts r ≡ mapped read-parts (string-in (now (bytes .entry))) ⌝ }
+    ensures value { λ r. ⌜ mapped text-parts r ≡ mapped read-parts (string-in (now (bytes .entry))) ⌝ }
+    ensures law { λ _. ⌜ Strings-read-back ⌝ }
 {
     let (count, rest) = cut_u8(bytes)?;
     match count {

@@ -3,6 +3,7 @@ ghost use mathlib.Core.Path.{_≡_};
 ghost use Prim.Native.Nat.{_<_};
 ghost use Rattle.std.specs.Options.{okOr};
 ghost use Rattle.wire.specs.declared.fault.DatasetFault.the-variants.{InvalidDataset};
+ghost use Rattle.wire.specs.Laws.{Object-infos-read-back};
 ghost use Rattle.wire.specs.ObjectInfos.{are-strings, object-info-in};
 use crate::fault::DatasetFault;
 use crate::info::ObjectInfo;
@@ -54,7 +55,8 @@ fn read_info(bytes: &[u8]) -> Option<ObjectInfo>
 impl ObjectInfo {
     /// What the dataset says, if it is well formed and nothing lies behind it.
     pub fn read(bytes: &[u8]) -> Result<ObjectInfo, DatasetFault>
-        ensures { λ r. ⌜ r ≡ okOr (object-info-in (now (bytes .entry))) InvalidDataset ⌝ }
+        ensures value { λ r. ⌜ r ≡ okOr (object-info-in (now (bytes .entry))) InvalidDataset ⌝ }
+        ensures law { λ _. ⌜ Object-infos-read-back ⌝ }
     {
         read_info(bytes).ok_or(DatasetFault::InvalidDataset)
     }

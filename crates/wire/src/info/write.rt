@@ -3,8 +3,12 @@ ghost use mathlib.Core.Path.{_≡_};
 ghost use Prim.Native.Nat.{_+_, _≤_, _<_};
 ghost use lib.ListN.{length};
 ghost use Rattle.object.specs.Names.{units-of};
+ghost use Rattle.std.specs.Vec.{made};
+ghost use Rattle.std.specs.declared.option.Option.the-variants.{Some};
 ghost use Rattle.wire.specs.Containers.{data-container};
-ghost use Rattle.wire.specs.ObjectInfos.{association-type, object-fields, object-info};
+ghost use Rattle.wire.specs.ObjectInfos.{association-type, object-fields, object-info, object-info-in};
+ghost use Rattle.wire.specs.Laws.{Object-info-fits, Storage-info-fits, Storage-infos-read-back};
+ghost use Rattle.wire.specs.Readers.{storage-info-in};
 ghost use Rattle.wire.specs.StorageInfos.{storage-type, storage-label, access-capability, storage-info};
 ghost use Rattle.wire.specs.Strings.{string};
 ghost use Rattle.wire.specs.Writing.{Wrote, placed};
@@ -24,7 +28,8 @@ fn association_type(format: u16) -> u16
 /// Puts the fields of fixed width.
 fn put_object_fields(out: &mut [u8], place: usize, info: &ObjectInfo) -> usize
     requires { ⌜ place + 52 ≤ length (now out) ⌝ }
-    ensures { λ r. ⌜ Wrote place (object-fields (now (info .entry))) (now (out .entry)) (now (out .exit)) r ⌝ }
+    ensures bytes { λ r. ⌜ Wrote place (object-fields (now (info .entry))) (now (out .entry)) (now (out .exit)) r ⌝ }
+    ensures fits { λ _. ⌜ Object-info-fits (now (info .entry)) ⌝ }
 {
     let next = put_u32(out, place, info.storage);
     let next = put_u16(out, next, info.format);
@@ -51,7 +56,8 @@ fn object_info_len(info: &ObjectInfo) -> usize
 
 fn put_object_info(out: &mut [u8], place: usize, info: &ObjectInfo) -> usize
     requires { ⌜ place + length (object-info (now info)) ≤ length (now out) ⌝ }
-    ensures { λ r. ⌜ Wrote place (object-info (now (info .entry))) (now (out .entry)) (now (out .exit)) r ⌝ }
+    ensures bytes { λ r. ⌜ Wrote place (object-info (now (info .entry))) (now (out .entry)) (now (out .exit)) r ⌝ }
+    ensures fits { λ _. ⌜ Object-info-fits (now (info .entry)) ⌝ }
 {
     let next = put_object_fields(out, place, info);
     let next = put_name(out, next, &info.name);
@@ -60,7 +66,8 @@ fn put_object_info(out: &mut [u8], place: usize, info: &ObjectInfo) -> usize
 
 /// Writes the data container of an ObjectInfo.
 pub fn write_object_info(out: &mut [u8], code: u16, transaction: u32, info: &ObjectInfo) -> Result<usize, DatasetFault>
-    ensures { λ r. ⌜ (r, now (out .exit)) ≡ placed (data-container code transaction (object-info (now (info .entry)))) (now (out .entry)) ⌝ }
+    ensures value { λ r. ⌜ (r, now (out .exit)) ≡ placed (data-container code transaction (object-info (now (info .entry)))) (now (out .entry)) ⌝ }
+    ensures back { λ r. ⌜ made r (λ _. object-info-in (object-info (now (info .entry))) ≡ Some (now (info .entry))) ⌝ }
 {
     let next = write_data_head(out, code, transaction, object_info_len(info))?;
     Ok(put_object_info(out, next, info))
@@ -98,7 +105,8 @@ fn access_capability(writable: bool) -> u16
 
 fn put_storage_info(out: &mut [u8], place: usize, info: &StorageInfo) -> usize
     requires { ⌜ place + 46 ≤ length (now out) ⌝ }
-    ensures { λ r. ⌜ Wrote place (storage-info (now (info .entry))) (now (out .entry)) (now (out .exit)) r ⌝ }
+    ensures bytes { λ r. ⌜ Wrote place (storage-info (now (info .entry))) (now (out .entry)) (now (out .exit)) r ⌝ }
+    ensures fits { λ _. ⌜ Storage-info-fits (now (info .entry)) ⌝ }
 {
     let next = put_u16(out, place, info.kind.number());
     let next = put_u16(out, next, 2);
@@ -112,7 +120,9 @@ fn put_storage_info(out: &mut [u8], place: usize, info: &StorageInfo) -> usize
 
 /// Writes the data container of a StorageInfo.
 pub fn write_storage_info(out: &mut [u8], code: u16, transaction: u32, info: &StorageInfo) -> Result<usize, DatasetFault>
-    ensures { λ r. ⌜ (r, now (out .exit)) ≡ placed (data-container code transaction (storage-info (now (info .entry)))) (now (out .entry)) ⌝ }
+    ensures value { λ r. ⌜ (r, now (out .exit)) ≡ placed (data-container code transaction (storage-info (now (info .entry)))) (now (out .entry)) ⌝ }
+    ensures back { λ r. ⌜ made r (λ _. storage-info-in (storage-info (now (info .entry))) ≡ Some (now (info .entry))) ⌝ }
+    ensures law { λ _. ⌜ Storage-infos-read-back ⌝ }
 {
     let next = write_data_head(out, code, transaction, 46)?;
     Ok(put_storage_info(out, next, info))

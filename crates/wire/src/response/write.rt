@@ -4,6 +4,7 @@ ghost use mathlib.Core.List.{_∷_, []};
 ghost use Prim.Native.Nat.{_≤_};
 ghost use lib.ListN.{length};
 ghost use Rattle.wire.specs.Containers.{response};
+ghost use Rattle.wire.specs.Laws.{Responses-read-back};
 ghost use Rattle.wire.specs.Parameters.{listed};
 ghost use Rattle.wire.specs.Writing.{written};
 use crate::container::RESPONSE;
@@ -48,7 +49,8 @@ impl Parameters {
 
 /// Writes the response to the front of `out`, whose rest stays, and answers its length.
 pub fn write_response(out: &mut [u8; 32], code: u16, transaction: u32, parameters: &Parameters) -> usize
-    ensures { λ r. ⌜ (r, now (out .exit)) ≡ written (response code transaction (listed (now (parameters .entry)))) (now (out .entry)) ⌝ }
+    ensures value { λ r. ⌜ (r, now (out .exit)) ≡ written (response code transaction (listed (now (parameters .entry)))) (now (out .entry)) ⌝ }
+    ensures law { λ _. ⌜ Responses-read-back ⌝ }
 {
     let list = parameters.list();
     let next = put_head(out, RESPONSE, code, transaction, 4 * list.len());

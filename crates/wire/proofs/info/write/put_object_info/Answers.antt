@@ -9,12 +9,16 @@ put-object-fields-next-requires c κs = omega (arith, c .pre, length-parts (c .a
 
 pub put-name-next-requires : need.put-name-next-requires
 put-name-next-requires c κs =
-    omega (arith, c .pre, length-parts (c .args .info .now), c .put-object-fields-next .ensures .behind, length-put (c .put-object-fields-next .ensures))
+    omega (arith, c .pre, length-parts (c .args .info .now), c .put-object-fields-next .ensures .bytes .behind, length-put (c .put-object-fields-next .ensures .bytes))
 
 pub put-bytes-requires : need.put-bytes-requires
 put-bytes-requires c κs =
-    omega (arith, c .pre, length-parts (c .args .info .now), c .put-object-fields-next .ensures .behind, length-put (c .put-object-fields-next .ensures), c .put-name-next .ensures .behind, length-put (c .put-name-next .ensures))
+    omega (arith, c .pre, length-parts (c .args .info .now), c .put-object-fields-next .ensures .bytes .behind, length-put (c .put-object-fields-next .ensures .bytes), c .put-name-next .ensures .behind, length-put (c .put-name-next .ensures))
 
 pub returns : need.returns
 unfolding object-info
-returns c = put-then (c .put-object-fields-next .ensures) (put-then (c .put-name-next .ensures) (c .put-bytes .ensures))
+returns c =
+    record {
+      bytes = put-then (c .put-object-fields-next .ensures .bytes) (put-then (c .put-name-next .ensures) (c .put-bytes .ensures));
+      fits = c .put-object-fields-next .ensures .fits;
+    }

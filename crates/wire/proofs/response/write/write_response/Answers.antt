@@ -8,6 +8,7 @@ use Rattle.wire.specs.Parameters.{listed}
 use Rattle.wire.specs.Writing.{written}
 use Rattle.wire.proofs.Placed.{wrote-over, length-head, head-joins}
 use Rattle.wire.proofs.Puts.{put-then, put-same, length-put, length-numbers}
+use Rattle.wire.proofs.ReadBack.{responses-back}
 use Rattle.wire.proofs.response.write.write_response.Needs as need
 
 pub put-u32s-requires : need.put-u32s-requires
@@ -19,7 +20,11 @@ returns c =
     let ps = c .list-list .result .now in
     let code = c .args .code in
     let transaction = c .args .transaction in
-    wrote-over
-    (put-same (ap (λ n. head response-type code transaction n ++ numbers 4 ps) (sym (length-numbers 4 ps)) ∙ head-joins response-type code transaction (numbers 4 ps))
-      (put-then (c .put-head-next .ensures) (c .put-u32s .ensures)))
-    ∙ ap (λ l. written (response code transaction l) (c .args .out .now)) (c .list-list .ensures .value)
+    record {
+      value =
+        wrote-over
+        (put-same (ap (λ n. head response-type code transaction n ++ numbers 4 ps) (sym (length-numbers 4 ps)) ∙ head-joins response-type code transaction (numbers 4 ps))
+          (put-then (c .put-head-next .ensures) (c .put-u32s .ensures)))
+        ∙ ap (λ l. written (response code transaction l) (c .args .out .now)) (c .list-list .ensures .value);
+      law = responses-back;
+    }
