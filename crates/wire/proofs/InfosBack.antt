@@ -62,13 +62,13 @@ object-info-back i f =
     ∙ ap (info-named bs) (string-back (units-of (i .name)) (0 ∷ 0 ∷ 0 ∷ []) (name-fits (i .name)))
     ∙ (λ j. info-from bs (protection-back (i .protection) j) (sym (accepted (units-of (i .name)) (i .name) refl .value) j))
     ∙ (λ j. Some (record {
-        storage = value-le 4 (i .storage) (f .storage) j;
-        format = value-le 2 (i .format) (f .format) j;
-        protection = i .protection;
-        size = value-le 4 (i .size) (f .size) j;
-        parent = value-le 4 (i .parent) (f .parent) j;
-        name = i .name;
-      }))
+      storage = value-le 4 (i .storage) (f .storage) j;
+      format = value-le 2 (i .format) (f .format) j;
+      protection = i .protection;
+      size = value-le 4 (i .size) (f .size) j;
+      parent = value-le 4 (i .parent) (f .parent) j;
+      name = i .name;
+    }))
 
 pub storage-info-back : Storage-infos-read-back
 unfolding storage-info storage-info-in
@@ -79,12 +79,12 @@ storage-info-back i f = by (i .kind) (i .writable)
 
     back : (k : StorageKind) (w : Bool) → storage-from (storage-info (j k w)) (Some k) (Some w) ≡ Some (j k w)
     back k w = λ x. Some (record {
-        kind = k;
-        writable = w;
-        capacity = value-le 8 (i .capacity) (f .capacity) x;
-        «free_bytes» = value-le 8 (i .«free_bytes») (f .bytes) x;
-        «free_objects» = value-le 4 (i .«free_objects») (f .objects) x;
-      })
+      kind = k;
+      writable = w;
+      capacity = value-le 8 (i .capacity) (f .capacity) x;
+      «free_bytes» = value-le 8 (i .«free_bytes») (f .bytes) x;
+      «free_objects» = value-le 4 (i .«free_objects») (f .objects) x;
+    })
 
     by : (k : StorageKind) (w : Bool) → storage-info-in (storage-info (j k w)) ≡ Some (j k w)
     by Programs true = back Programs true

@@ -6,4 +6,5 @@ pub mod Places
 pub mod Puts
 pub mod ReadBack
 pub mod Rows
+pub mod Shown
 pub mod Units

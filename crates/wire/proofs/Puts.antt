@@ -33,12 +33,12 @@ module _ {place n m : ℕ} {a b xs ys zs : List ℕ} (w : Wrote place a xs ys n)
   -- one write behind the other is a write of both
   pub put-then : Wrote place (a ++ b) xs zs m
   put-then = record {
-      fits = omega (arith, w .fits, w .behind, v .fits, length-put w, length-append a b);
-      behind = omega (arith, w .behind, v .behind, length-append a b);
-      is =
+    fits = omega (arith, w .fits, w .behind, v .fits, length-put w, length-append a b);
+    behind = omega (arith, w .behind, v .behind, length-append a b);
+    is =
         v .is ∙ (λ i. (ap (take n) whole ∙ take-at (take place xs ++ a) (drop (place + length a) xs) n long) i ++ (b ++ after i))
         ∙ append-assoc (take place xs) a (b ++ drop (place + length (a ++ b)) xs) ∙ ap (λ l. take place xs ++ l) (sym (append-assoc a b (drop (place + length (a ++ b)) xs)));
-    }
+  }
 
 pub put-none : (place : ℕ) (xs : List ℕ) → place ≤ length xs → Wrote place [] xs xs place
 put-none place xs h =

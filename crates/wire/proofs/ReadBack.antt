@@ -52,7 +52,7 @@ unfolding payload-in
 data-back code transaction payload h k l =
     cond-true _ _ _
     (and-from _ _ (kind-back data-type code transaction payload (omega arith) l)
-      (and-from _ _ (eq-eqb _ _ (code-back data-type code transaction payload h)) (eq-eqb _ _ (transaction-back data-type code transaction payload k))))
+    (and-from _ _ (eq-eqb _ _ (code-back data-type code transaction payload h)) (eq-eqb _ _ (transaction-back data-type code transaction payload k))))
     ∙ ap Some (payload-back data-type code transaction payload)
 
 pub heads-join : Heads-join
@@ -64,7 +64,7 @@ numbers-back k [] rest h = refl
 numbers-back k (n ∷ ns) rest h =
     let e = append-assoc (le k n) (numbers k ns) rest in
     λ i. (ap (λ l. value (take k l)) e ∙ ap value (take-at (le k n) (numbers k ns ++ rest) k (length-le k n)) ∙ value-le k n (h .0)) i
-      ∷ (ap (λ l. number-list k (length ns) (drop k l)) e ∙ ap (number-list k (length ns)) (drop-at (le k n) (numbers k ns ++ rest) k (length-le k n)) ∙ numbers-back k ns rest (h .1)) i
+    ∷ (ap (λ l. number-list k (length ns) (drop k l)) e ∙ ap (number-list k (length ns)) (drop-at (le k n) (numbers k ns ++ rest) k (length-le k n)) ∙ numbers-back k ns rest (h .1)) i
 
 append-none : (l : List ℕ) → l ++ [] ≡ l
 append-none [] = refl
@@ -92,12 +92,12 @@ response-back r f =
     let count : (length bs - 12) / 4 ≡ length ps = omega (arith, f .few) in
     cond-true _ _ _
     (and-from _ _ (kind-back response-type (r .code) (r .transaction) (numbers 4 ps) (omega arith) (omega (arith, f .few)))
-      (and-from _ _ (le-leb (length bs) 32 (omega (arith, f .few))) (eq-eqb _ 0 (omega (arith, f .few)))))
+    (and-from _ _ (le-leb (length bs) 32 (omega (arith, f .few))) (eq-eqb _ 0 (omega (arith, f .few)))))
     ∙ (λ i. Some (record {
-        code = code-back response-type (r .code) (r .transaction) (numbers 4 ps) (f .code) i;
-        transaction = transaction-back response-type (r .code) (r .transaction) (numbers 4 ps) (f .transaction) i;
-        parameters = (ap (number-list 4 ((length bs - 12) / 4)) (payload-back response-type (r .code) (r .transaction) (numbers 4 ps)) ∙ ap (λ n. number-list 4 n (numbers 4 ps)) count ∙ list-back 4 ps (f .parameters)) i;
-      }))
+      code = code-back response-type (r .code) (r .transaction) (numbers 4 ps) (f .code) i;
+      transaction = transaction-back response-type (r .code) (r .transaction) (numbers 4 ps) (f .transaction) i;
+      parameters = (ap (number-list 4 ((length bs - 12) / 4)) (payload-back response-type (r .code) (r .transaction) (numbers 4 ps)) ∙ ap (λ n. number-list 4 n (numbers 4 ps)) count ∙ list-back 4 ps (f .parameters)) i;
+    }))
 
 pub responses-back : Responses-read-back
 responses-back =
@@ -128,12 +128,12 @@ command-back code transaction ps h k p l =
     let whole = container-length command-type code transaction (numbers 4 ps) in
     cond-true _ _ _
     (and-from _ _ (kind-back command-type code transaction (numbers 4 ps) (omega arith) (omega arith))
-      (and-from _ _ (le-leb (length bs) 32 (omega arith)) (eq-eqb _ 0 (omega arith))))
+    (and-from _ _ (le-leb (length bs) 32 (omega arith)) (eq-eqb _ 0 (omega arith))))
     ∙ (λ i. Some (record {
-        code = code-back command-type code transaction (numbers 4 ps) h i;
-        transaction = transaction-back command-type code transaction (numbers 4 ps) k i;
-        parameters = five-back code transaction ps p l i;
-      }))
+      code = code-back command-type code transaction (numbers 4 ps) h i;
+      transaction = transaction-back command-type code transaction (numbers 4 ps) k i;
+      parameters = five-back code transaction ps p l i;
+    }))
 
 -- strings
 unit-value : (u : ℕ) → u < 2 ^ 16 → u % 256 + 256 * (u / 256 % 256) ≡ u

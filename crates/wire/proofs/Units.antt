@@ -112,9 +112,9 @@ module _ (bytes : List ℕ) (count : ℕ) (rest : List ℕ) (left : ℕ) (s : So
           long = omega (arith, s .long);
           holds = units-append (s .front) two (s .units) (s .holds) ∙ ap (λ v. Some (s .units ++ (v ∷ []))) (f .unit);
           reads =
-            s .reads
-            ∙ ap (with-all (s .units)) ((λ i. closed-units (n i) (f .is i)) ∙ cond-false _ _ _ (ne-eqb _ 0 (λ q. z (sym (f .unit) ∙ q))) ∙ ap (λ v. with-unit v (closed-units (left - 1) after)) (f .unit))
-            ∙ sym (with-all-push (s .units) u (closed-units (left - 1) after));
+              s .reads
+              ∙ ap (with-all (s .units)) ((λ i. closed-units (n i) (f .is i)) ∙ cond-false _ _ _ (ne-eqb _ 0 (λ q. z (sym (f .unit) ∙ q))) ∙ ap (λ v. with-unit v (closed-units (left - 1) after)) (f .unit))
+              ∙ sym (with-all-push (s .units) u (closed-units (left - 1) after));
         }
 
     pub sofar-open : left ≡ 0 → (u ≡ 0 → ⊥) → None ≡ closed-units count bytes

@@ -5,7 +5,7 @@ use Rattle.wire.specs.declared.fault.DatasetFault.{DatasetFault}
 use Rattle.wire.specs.declared.fault.DatasetFault.the-variants.{IncompleteTransfer, InvalidDataset, BufferTooShort}
 
 abbrev pub stray : StrayContainer
-stray = record { }
+stray = record {}
 
 abbrev pub stray-number : StrayContainer → ℕ
 stray-number s = 1

@@ -7,6 +7,7 @@ pub mod Operations
 pub mod Parameters
 pub mod Payloads
 pub mod Readers
+pub mod Samples
 pub mod StorageInfos
 pub mod Strings
 pub mod Texts

@@ -4,9 +4,11 @@ ghost use Rattle.std.specs.Options.{okOr};
 ghost use Rattle.wire.specs.Containers.{is-command, command-in};
 ghost use Rattle.wire.specs.Faults.{stray};
 ghost use Rattle.wire.specs.Laws.{Commands-read-back};
-use crate::container::{COMMAND, is_container};
+use crate::container::COMMAND;
+use crate::container::is_container;
 use crate::fault::StrayContainer;
-use crate::read::{u16_at, u32_at};
+use crate::read::u16_at;
+use crate::read::u32_at;
 
 /// The fields of a command. A missing parameter counts as 0.
 #[derive(Clone, Copy)]

@@ -6,7 +6,8 @@ ghost use Rattle.wire.specs.Containers.{is-container, is-data, payload-in};
 ghost use Rattle.wire.specs.Laws.{Data-reads-back};
 ghost use Rattle.wire.specs.Payloads.{seen-payload, behind-head};
 use crate::fault::DatasetFault;
-use crate::read::{u16_at, u32_at};
+use crate::read::u16_at;
+use crate::read::u32_at;
 
 /// The length of a head.
 pub const HEAD: usize = 12;

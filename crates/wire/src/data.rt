@@ -7,13 +7,21 @@ ghost use Rattle.wire.specs.Containers.{data-container, data-type, head};
 ghost use Rattle.wire.specs.Laws.{Heads-join, Arrays-read-back};
 ghost use Rattle.wire.specs.Strings.{array};
 ghost use Rattle.wire.specs.Writing.{placed, placed-in, placed-at};
-use crate::container::{DATA, HEAD};
+use crate::container::DATA;
+use crate::container::HEAD;
 use crate::fault::DatasetFault;
-use crate::put::{put_array, put_head, put_u32};
+use crate::put::put_array;
+use crate::put::put_head;
+use crate::put::put_u32;
 
 /// Writes the head of a data container whose payload has `len` bytes, if the buffer holds the whole container. The payload
 /// belongs at the place that this answers.
-pub fn write_data_head(out: &mut [u8], code: u16, transaction: u32, len: usize) -> Result<usize, DatasetFault>
+pub fn write_data_head(
+    out: &mut [u8],
+    code: u16,
+    transaction: u32,
+    len: usize,
+) -> Result<usize, DatasetFault>
     ensures value { λ r. ⌜ (r, now (out .exit)) ≡ placed-in (12 + len) (head data-type code transaction len) (now (out .entry)) ⌝ }
     ensures whole { λ _. ⌜ Heads-join ⌝ }
 {
@@ -34,7 +42,12 @@ pub fn write_number(out: &mut [u8], place: usize, number: u32) -> Result<usize, 
 }
 
 /// Writes an array of handles or of storage ids.
-pub fn write_array(out: &mut [u8], code: u16, transaction: u32, list: &[u32]) -> Result<usize, DatasetFault>
+pub fn write_array(
+    out: &mut [u8],
+    code: u16,
+    transaction: u32,
+    list: &[u32],
+) -> Result<usize, DatasetFault>
     ensures value { λ r. ⌜ (r, now (out .exit)) ≡ placed (data-container code transaction (array 4 (now (list .entry)))) (now (out .entry)) ⌝ }
     ensures law { λ _. ⌜ Arrays-read-back ⌝ }
 {

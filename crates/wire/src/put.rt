@@ -8,7 +8,6 @@ ghost use Rattle.object.specs.Names.{unit-bytes};
 ghost use Rattle.wire.specs.Containers.{numbers, head};
 ghost use Rattle.wire.specs.Strings.{string, array};
 ghost use Rattle.wire.specs.Writing.{Wrote};
-
 use crate::container::HEAD;
 
 /// Puts `bytes` into `out` at `place`, and answers the place behind them.

@@ -5,7 +5,8 @@ ghost use Rattle.std.specs.Options.{mapped};
 ghost use Rattle.wire.specs.Laws.{Strings-read-back};
 ghost use Rattle.wire.specs.Strings.{closed-units, string-in};
 ghost use Rattle.wire.specs.Texts.{text-parts, read-parts};
-use bytes::cut::{cut_u8, cut_u16};
+use bytes::cut::cut_u8;
+use bytes::cut::cut_u16;
 
 /// A string at the front of the caller's bytes: its units, two bytes each with the lower one first and without the closing
 /// 0, and the bytes behind it.

@@ -7,14 +7,19 @@ ghost use Rattle.object.specs.Formats.{format-number, formats};
 ghost use Rattle.wire.specs.Containers.{numbers, data-container};
 ghost use Rattle.wire.specs.DeviceInfos.{device-version, device-codes, device-texts, device-info};
 ghost use Rattle.wire.specs.Operations.{operation-codes};
+ghost use Rattle.wire.specs.Samples.{Samples};
 ghost use Rattle.wire.specs.Writing.{Wrote, placed};
 use crate::data::write_data_head;
 use crate::fault::DatasetFault;
 use crate::operation::OPERATIONS;
-use crate::put::{put_bytes, put_count, put_string, put_u16, put_u16s, put_u32, put_u8};
+use crate::put::put_bytes;
+use crate::put::put_count;
+use crate::put::put_string;
+use crate::put::put_u8;
+use crate::put::put_u16;
+use crate::put::put_u16s;
+use crate::put::put_u32;
 use object::format::Format;
-
-const VERSION: u16 = 100;
 
 const MANUFACTURER: [u16; 6] = [0x53, 0x70, 0x61, 0x72, 0x65, 0x73];
 
@@ -24,13 +29,21 @@ const DEVICE_VERSION: [u16; 1] = [0x31];
 
 const SERIAL_NUMBER: [u16; 1] = [0x30];
 
+/// The version of the standard that the formats follow, as the DeviceInfo tells it: in hundredths.
+pub fn standard_version() -> u16
+    ensures value { λ r. ⌜ r ≡ 100 ⌝ }
+    ensures samples { λ _. ⌜ Samples ⌝ }
+{
+    100
+}
+
 fn put_version(out: &mut [u8], place: usize) -> usize
     requires { ⌜ place + 11 ≤ length (now out) ⌝ }
     ensures { λ r. ⌜ Wrote place device-version (now (out .entry)) (now (out .exit)) r ⌝ }
 {
-    let next = put_u16(out, place, VERSION);
+    let next = put_u16(out, place, standard_version());
     let next = put_u32(out, next, 6);
-    let next = put_u16(out, next, VERSION);
+    let next = put_u16(out, next, 100);
     let next = put_u8(out, next, 0);
     put_u16(out, next, 0)
 }

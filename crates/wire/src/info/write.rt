@@ -14,15 +14,26 @@ ghost use Rattle.wire.specs.Strings.{string};
 ghost use Rattle.wire.specs.Writing.{Wrote, placed};
 use crate::data::write_data_head;
 use crate::fault::DatasetFault;
-use crate::info::{ObjectInfo, StorageInfo, StorageKind};
-use crate::put::{put_bytes, put_string, put_u16, put_u32, put_u64, put_u8};
+use crate::info::ObjectInfo;
+use crate::info::StorageInfo;
+use crate::info::StorageKind;
+use crate::put::put_bytes;
+use crate::put::put_string;
+use crate::put::put_u8;
+use crate::put::put_u16;
+use crate::put::put_u32;
+use crate::put::put_u64;
 use object::format::Format;
 use object::name::Name;
 
 fn association_type(format: u16) -> u16
     ensures { λ r. ⌜ r ≡ association-type format ⌝ }
 {
-    if format == Format::Association.number() { 1 } else { 0 }
+    if format == Format::Association.number() {
+        1
+    } else {
+        0
+    }
 }
 
 /// Puts the fields of fixed width.
@@ -65,7 +76,12 @@ fn put_object_info(out: &mut [u8], place: usize, info: &ObjectInfo) -> usize
 }
 
 /// Writes the data container of an ObjectInfo.
-pub fn write_object_info(out: &mut [u8], code: u16, transaction: u32, info: &ObjectInfo) -> Result<usize, DatasetFault>
+pub fn write_object_info(
+    out: &mut [u8],
+    code: u16,
+    transaction: u32,
+    info: &ObjectInfo,
+) -> Result<usize, DatasetFault>
     ensures value { λ r. ⌜ (r, now (out .exit)) ≡ placed (data-container code transaction (object-info (now (info .entry)))) (now (out .entry)) ⌝ }
     ensures back { λ r. ⌜ made r (λ _. object-info-in (object-info (now (info .entry))) ≡ Some (now (info .entry))) ⌝ }
 {
@@ -119,7 +135,12 @@ fn put_storage_info(out: &mut [u8], place: usize, info: &StorageInfo) -> usize
 }
 
 /// Writes the data container of a StorageInfo.
-pub fn write_storage_info(out: &mut [u8], code: u16, transaction: u32, info: &StorageInfo) -> Result<usize, DatasetFault>
+pub fn write_storage_info(
+    out: &mut [u8],
+    code: u16,
+    transaction: u32,
+    info: &StorageInfo,
+) -> Result<usize, DatasetFault>
     ensures value { λ r. ⌜ (r, now (out .exit)) ≡ placed (data-container code transaction (storage-info (now (info .entry)))) (now (out .entry)) ⌝ }
     ensures back { λ r. ⌜ made r (λ _. storage-info-in (storage-info (now (info .entry))) ≡ Some (now (info .entry))) ⌝ }
     ensures law { λ _. ⌜ Storage-infos-read-back ⌝ }

@@ -8,7 +8,8 @@ ghost use Rattle.wire.specs.Laws.{Responses-read-back};
 ghost use Rattle.wire.specs.Parameters.{listed};
 ghost use Rattle.wire.specs.Writing.{written};
 use crate::container::RESPONSE;
-use crate::put::{put_head, put_u32s};
+use crate::put::put_head;
+use crate::put::put_u32s;
 use crate::response::Parameters;
 
 impl Parameters {
@@ -48,7 +49,12 @@ impl Parameters {
 }
 
 /// Writes the response to the front of `out`, whose rest stays, and answers its length.
-pub fn write_response(out: &mut [u8; 32], code: u16, transaction: u32, parameters: &Parameters) -> usize
+pub fn write_response(
+    out: &mut [u8; 32],
+    code: u16,
+    transaction: u32,
+    parameters: &Parameters,
+) -> usize
     ensures value { λ r. ⌜ (r, now (out .exit)) ≡ written (response code transaction (listed (now (parameters .entry)))) (now (out .entry)) ⌝ }
     ensures law { λ _. ⌜ Responses-read-back ⌝ }
 {

@@ -22,9 +22,9 @@ returns c =
     let transaction = c .args .transaction in
     record {
       value =
-        wrote-over
-        (put-same (ap (λ n. head response-type code transaction n ++ numbers 4 ps) (sym (length-numbers 4 ps)) ∙ head-joins response-type code transaction (numbers 4 ps))
+          wrote-over
+          (put-same (ap (λ n. head response-type code transaction n ++ numbers 4 ps) (sym (length-numbers 4 ps)) ∙ head-joins response-type code transaction (numbers 4 ps))
           (put-then (c .put-head-next .ensures) (c .put-u32s .ensures)))
-        ∙ ap (λ l. written (response code transaction l) (c .args .out .now)) (c .list-list .ensures .value);
+          ∙ ap (λ l. written (response code transaction l) (c .args .out .now)) (c .list-list .ensures .value);
       law = responses-back;
     }

@@ -1,0 +1,6 @@
+use mathlib.Core.Path.{refl}
+use Rattle.wire.proofs.Shown.{samples}
+use Rattle.wire.proofs.info.device.standard_version.Needs as need
+
+pub returns : need.returns
+returns c = record { value = refl; samples = samples }
