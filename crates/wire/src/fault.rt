@@ -2,6 +2,9 @@
 ghost use mathlib.Core.Path.{_≡_};
 ghost use Rattle.wire.specs.Faults.{stray-number, dataset-fault-number};
 
+/// The number of the refusal of a stray container.
+const STRAY_CONTAINER: u16 = 1;
+
 /// Bytes that are not one command container: nothing is owed for them.
 #[derive(Clone, Copy)]
 pub struct StrayContainer;
@@ -22,7 +25,7 @@ impl StrayContainer {
     pub fn number(self) -> u16
         ensures { λ r. ⌜ r ≡ stray-number self ⌝ }
     {
-        1
+        STRAY_CONTAINER
     }
 }
 

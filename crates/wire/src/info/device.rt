@@ -21,6 +21,8 @@ use crate::put::put_u16s;
 use crate::put::put_u32;
 use object::format::Format;
 
+const VERSION: u16 = 100;
+
 const MANUFACTURER: [u16; 6] = [0x53, 0x70, 0x61, 0x72, 0x65, 0x73];
 
 const MODEL: [u16; 4] = [0x44, 0x72, 0x69, 0x70];
@@ -34,7 +36,7 @@ pub fn standard_version() -> u16
     ensures value { λ r. ⌜ r ≡ 100 ⌝ }
     ensures samples { λ _. ⌜ Samples ⌝ }
 {
-    100
+    VERSION
 }
 
 fn put_version(out: &mut [u8], place: usize) -> usize
@@ -43,7 +45,7 @@ fn put_version(out: &mut [u8], place: usize) -> usize
 {
     let next = put_u16(out, place, standard_version());
     let next = put_u32(out, next, 6);
-    let next = put_u16(out, next, 100);
+    let next = put_u16(out, next, VERSION);
     let next = put_u8(out, next, 0);
     put_u16(out, next, 0)
 }

@@ -3,9 +3,10 @@ ghost use mathlib.Core.Path.{_≡_};
 ghost use mathlib.Core.List.{_∷_, []};
 ghost use Prim.Native.Nat.{_≤_};
 ghost use lib.ListN.{length};
+ghost use Rattle.std.specs.Options.{mapped};
 ghost use Rattle.wire.specs.Containers.{response};
 ghost use Rattle.wire.specs.Laws.{Responses-read-back};
-ghost use Rattle.wire.specs.Parameters.{listed};
+ghost use Rattle.wire.specs.Parameters.{listed, at-most-five};
 ghost use Rattle.wire.specs.Writing.{written};
 use crate::container::RESPONSE;
 use crate::put::put_head;
@@ -40,6 +41,23 @@ impl Parameters {
         }
     }
 
+    /// These parameters, if they are at most five.
+    pub fn from_slice(list: &[u32]) -> Option<Parameters>
+        ensures { λ r. ⌜ mapped listed r ≡ at-most-five (now (list .entry)) ⌝ }
+    {
+        let count = list.len();
+        if count > 5 {
+            return None;
+        }
+        let mut values = [0; 5];
+        values[0..count].copy_from_slice(list);
+        Some(Parameters {
+            values,
+            count: count as u8,
+        })
+    }
+
+    /// The parameters in their order.
     pub fn list(&self) -> &[u32]
         ensures value { λ r. ⌜ now r ≡ listed (now (self .entry)) ⌝ }
         ensures few { λ r. ⌜ length (now r) ≤ 5 ⌝ }
