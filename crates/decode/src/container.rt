@@ -66,7 +66,10 @@ fn body_said(heap: Global, head: Head, payload: &[u8]) -> Result<String, AllocEr
         1 => {
             let name = code_said(heap, operation_name(code), code)?;
             let parameters = parameters_said(heap, payload)?;
-            format!(heap, "command {name}, transaction {transaction}{parameters}")
+            format!(
+                heap,
+                "command {name}, transaction {transaction}{parameters}"
+            )
         }
         2 => {
             let name = code_said(heap, operation_name(code), code)?;
@@ -76,11 +79,17 @@ fn body_said(heap: Global, head: Head, payload: &[u8]) -> Result<String, AllocEr
         3 => {
             let name = code_said(heap, response_name(code), code)?;
             let parameters = parameters_said(heap, payload)?;
-            format!(heap, "response {name}, transaction {transaction}{parameters}")
+            format!(
+                heap,
+                "response {name}, transaction {transaction}{parameters}"
+            )
         }
         kind => {
             let len = payload.len();
-            format!(heap, "type {kind}, code {code:#06x}, transaction {transaction}, {len} bytes")
+            format!(
+                heap,
+                "type {kind}, code {code:#06x}, transaction {transaction}, {len} bytes"
+            )
         }
     }
 }
@@ -94,7 +103,10 @@ pub fn container_said(heap: Global, bytes: &[u8]) -> Result<String, AllocError> 
             if len as usize == count {
                 body_said(heap, head, payload)
             } else {
-                format!(heap, "error: the length field says {len} and there are {count} bytes")
+                format!(
+                    heap,
+                    "error: the length field says {len} and there are {count} bytes"
+                )
             }
         }
         None => format!(heap, "error: {count} bytes are no head"),

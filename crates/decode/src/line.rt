@@ -24,10 +24,7 @@ pub fn said_of(heap: Global, line: &str) -> Result<Option<String>, AllocError> {
                 Ok(Some(container_said(heap, bytes.as_slice())?))
             }
         }
-        Err(Spoilt::NoDigit(c)) => Ok(Some(format!(
-            heap,
-            "error: {c:?} is no hexadecimal digit"
-        )?)),
+        Err(Spoilt::NoDigit(c)) => Ok(Some(format!(heap, "error: {c:?} is no hexadecimal digit")?)),
         Err(Spoilt::HalfByte) => Ok(Some(format!(heap, "error: half a byte at the end")?)),
     }
 }

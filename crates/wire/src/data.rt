@@ -1,6 +1,7 @@
 //! Data containers written into the caller's buffer.
 ghost use mathlib.Core.Path.{_≡_};
 ghost use Prim.Native.Nat.{_+_};
+ghost use lib.Dec.{leb};
 ghost use lib.ListN.{length};
 ghost use Rattle.bytes.specs.Numbers.{le};
 ghost use Rattle.wire.specs.Containers.{data-container, data-type, head};
@@ -14,6 +15,13 @@ use crate::put::put_array;
 use crate::put::put_head;
 use crate::put::put_u32;
 
+/// Whether a buffer of this length holds a container whose payload has `len` bytes.
+fn holds(room: usize, len: usize) -> bool
+    ensures { λ r. ⌜ r ≡ leb (12 + len) room ⌝ }
+{
+    room >= HEAD && room - HEAD >= len
+}
+
 /// Writes the head of a data container whose payload has `len` bytes, if the buffer holds the whole container. The payload
 /// belongs at the place that this answers.
 pub fn write_data_head(
@@ -25,7 +33,7 @@ pub fn write_data_head(
     ensures value { λ r. ⌜ (r, now (out .exit)) ≡ placed-in (12 + len) (head data-type code transaction len) (now (out .entry)) ⌝ }
     ensures whole { λ _. ⌜ Heads-join ⌝ }
 {
-    if out.len() < HEAD || out.len() - HEAD < len {
+    if !holds(out.len(), len) {
         return Err(DatasetFault::BufferTooShort);
     }
     Ok(put_head(out, DATA, code, transaction, len))

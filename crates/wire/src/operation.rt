@@ -1,5 +1,6 @@
 //! The operations that the responder knows.
 ghost use mathlib.Core.Path.{_≡_};
+ghost use lib.Dec.{eqb};
 ghost use Rattle.wire.specs.Operations.{operation-of};
 
 /// One operation: its code, and how many parameters it has.
@@ -85,12 +86,20 @@ pub const OPERATIONS: [Operation; 12] = [
     },
 ];
 
+impl Operation {
+    fn has_code(&self, code: u16) -> bool
+        ensures { λ r. ⌜ r ≡ eqb (now (self .entry) .code) code ⌝ }
+    {
+        self.code == code
+    }
+}
+
 /// The operation with this code, if it is known.
 pub fn operation_of(code: u16) -> Option<Operation>
     ensures { λ r. ⌜ r ≡ operation-of code ⌝ }
 {
     for operation in &OPERATIONS {
-        if operation.code == code {
+        if operation.has_code(code) {
             return Some(*operation);
         }
     }

@@ -1,6 +1,7 @@
 //! Strings: a count of units with the closing 0, the units, the closing 0.
 ghost use mathlib.Core.Path.{_≡_};
 ghost use Prim.Native.Nat.{_<_};
+ghost use lib.Dec.{eqb};
 ghost use Rattle.std.specs.Options.{mapped};
 ghost use Rattle.wire.specs.Laws.{Strings-read-back};
 ghost use Rattle.wire.specs.Strings.{closed-units, string-in};
@@ -16,6 +17,13 @@ pub struct Text<'a> {
     pub rest: &'a [u8],
 }
 
+/// Whether a unit closes a string.
+fn is_closing(unit: u16) -> bool
+    ensures { λ r. ⌜ r ≡ eqb unit 0 ⌝ }
+{
+    unit == 0
+}
+
 /// Reads `count` units other than 0, then a 0.
 fn read_units(bytes: &[u8], count: usize) -> Option<Text<'_>>
     requires { ⌜ count < 256 ⌝ }
@@ -25,14 +33,14 @@ fn read_units(bytes: &[u8], count: usize) -> Option<Text<'_>>
     let mut left = count;
     while left > 0 {
         let (unit, after) = cut_u16(rest)?;
-        if unit == 0 {
+        if is_closing(unit) {
             return None;
         }
         rest = after;
         left -= 1;
     }
     let (end, behind) = cut_u16(rest)?;
-    if end != 0 {
+    if !is_closing(end) {
         return None;
     }
     let (units, _) = bytes.split_at(2 * count);

@@ -21,7 +21,8 @@ use crate::put::put_u16s;
 use crate::put::put_u32;
 use object::format::Format;
 
-const VERSION: u16 = 100;
+/// Version 1.00.
+const STANDARD: u16 = 100;
 
 const MANUFACTURER: [u16; 6] = [0x53, 0x70, 0x61, 0x72, 0x65, 0x73];
 
@@ -31,21 +32,27 @@ const DEVICE_VERSION: [u16; 1] = [0x31];
 
 const SERIAL_NUMBER: [u16; 1] = [0x30];
 
+fn version() -> u16
+    ensures { λ r. ⌜ r ≡ 100 ⌝ }
+{
+    STANDARD
+}
+
 /// The version of the standard that the formats follow, as the DeviceInfo tells it: in hundredths.
 pub fn standard_version() -> u16
     ensures value { λ r. ⌜ r ≡ 100 ⌝ }
     ensures samples { λ _. ⌜ Samples ⌝ }
 {
-    VERSION
+    version()
 }
 
 fn put_version(out: &mut [u8], place: usize) -> usize
     requires { ⌜ place + 11 ≤ length (now out) ⌝ }
     ensures { λ r. ⌜ Wrote place device-version (now (out .entry)) (now (out .exit)) r ⌝ }
 {
-    let next = put_u16(out, place, standard_version());
+    let next = put_u16(out, place, version());
     let next = put_u32(out, next, 6);
-    let next = put_u16(out, next, VERSION);
+    let next = put_u16(out, next, version());
     let next = put_u8(out, next, 0);
     put_u16(out, next, 0)
 }

@@ -4,7 +4,7 @@ ghost use Prim.Native.Nat.{_<_};
 ghost use Rattle.std.specs.Options.{okOr};
 ghost use Rattle.wire.specs.declared.fault.DatasetFault.the-variants.{InvalidDataset};
 ghost use Rattle.wire.specs.Laws.{Object-infos-read-back};
-ghost use Rattle.wire.specs.ObjectInfos.{are-strings, object-info-in};
+ghost use Rattle.wire.specs.ObjectInfos.{are-strings, protection-at, object-info-in};
 use crate::fault::DatasetFault;
 use crate::info::ObjectInfo;
 use crate::read::u16_at;
@@ -33,6 +33,13 @@ fn are_strings(count: usize, bytes: &[u8]) -> bool
     rest.is_empty()
 }
 
+/// The protection that the dataset names, if there is such a one.
+fn protection_in(bytes: &[u8]) -> Option<Protection>
+    ensures { λ r. ⌜ r ≡ protection-at (now (bytes .entry)) ⌝ }
+{
+    Protection::from_number(u16_at(bytes, 6))
+}
+
 fn read_info(bytes: &[u8]) -> Option<ObjectInfo>
     ensures { λ r. ⌜ r ≡ object-info-in (now (bytes .entry)) ⌝ }
 {
@@ -41,7 +48,7 @@ fn read_info(bytes: &[u8]) -> Option<ObjectInfo>
     if !are_strings(3, filename.rest) {
         return None;
     }
-    let protection = Protection::from_number(u16_at(bytes, 6))?;
+    let protection = protection_in(bytes)?;
     let name = Name::from_bytes(filename.units)?;
     Some(ObjectInfo {
         storage: u32_at(bytes, 0),

@@ -1,7 +1,8 @@
 //! The writer of a response.
 ghost use mathlib.Core.Path.{_≡_};
 ghost use mathlib.Core.List.{_∷_, []};
-ghost use Prim.Native.Nat.{_≤_};
+ghost use Prim.Native.Nat.{_+_, _*_, _≤_};
+ghost use lib.Dec.{leb};
 ghost use lib.ListN.{length};
 ghost use Rattle.std.specs.Options.{mapped};
 ghost use Rattle.wire.specs.Containers.{response};
@@ -12,6 +13,13 @@ use crate::container::RESPONSE;
 use crate::put::put_head;
 use crate::put::put_u32s;
 use crate::response::Parameters;
+
+/// Whether a response has room for so many parameters.
+fn is_few(count: usize) -> bool
+    ensures { λ r. ⌜ r ≡ leb count 5 ⌝ }
+{
+    count <= 5
+}
 
 impl Parameters {
     pub fn none() -> Parameters
@@ -46,7 +54,7 @@ impl Parameters {
         ensures { λ r. ⌜ mapped listed r ≡ at-most-five (now (list .entry)) ⌝ }
     {
         let count = list.len();
-        if count > 5 {
+        if !is_few(count) {
             return None;
         }
         let mut values = [0; 5];
@@ -66,6 +74,16 @@ impl Parameters {
     }
 }
 
+/// Puts the response to the front of a buffer that holds it.
+fn put_response(out: &mut [u8], code: u16, transaction: u32, list: &[u32]) -> usize
+    requires { ⌜ 12 + 4 * length (now list) ≤ length (now out) ⌝ }
+    ensures value { λ r. ⌜ (r, now (out .exit)) ≡ written (response code transaction (now (list .entry))) (now (out .entry)) ⌝ }
+    ensures law { λ _. ⌜ Responses-read-back ⌝ }
+{
+    let next = put_head(out, RESPONSE, code, transaction, 4 * list.len());
+    put_u32s(out, next, list)
+}
+
 /// Writes the response to the front of `out`, whose rest stays, and answers its length.
 pub fn write_response(
     out: &mut [u8; 32],
@@ -76,7 +94,5 @@ pub fn write_response(
     ensures value { λ r. ⌜ (r, now (out .exit)) ≡ written (response code transaction (listed (now (parameters .entry)))) (now (out .entry)) ⌝ }
     ensures law { λ _. ⌜ Responses-read-back ⌝ }
 {
-    let list = parameters.list();
-    let next = put_head(out, RESPONSE, code, transaction, 4 * list.len());
-    put_u32s(out, next, list)
+    put_response(out, code, transaction, parameters.list())
 }

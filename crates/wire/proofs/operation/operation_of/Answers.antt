@@ -3,14 +3,14 @@ use Rattle.wire.specs.Operations.{operations, operation-of}
 use Rattle.wire.proofs.Rows.{row-found, row-next, row-none}
 use Rattle.wire.proofs.operation.operation_of.Needs as need
 
-pub returns-then-operation-code : need.returns-then-operation-code
+pub returns-then-has-code : need.returns-then-has-code
 unfolding operation-of
-returns-then-operation-code c =
-    sym (row-found operations (c .loop-operation .operation-index) (c .args .code) _ (c .loop-operation-test .taken) (c .if-operation-code .taken)) ∙ c .loop-operation .inv
+returns-then-has-code c =
+    sym (row-found operations (c .loop-operation .operation-index) (c .args .code) _ (c .loop-operation-test .taken) (sym (c .if-has-code .ensures tt))) ∙ c .loop-operation .inv
 
 pub loop-operation-again : need.loop-operation-again
 loop-operation-again c =
-    sym (row-next operations (c .loop-operation .operation-index) (c .args .code) (record { code = 0; parameters = 0 }) (c .loop-operation-test .taken) (c .if-operation-code .left)) ∙ c .loop-operation .inv
+    sym (row-next operations (c .loop-operation .operation-index) (c .args .code) (record { code = 0; parameters = 0 }) (c .loop-operation-test .taken) (sym (c .if-has-code .ensures tt))) ∙ c .loop-operation .inv
 
 pub returns : need.returns
 unfolding operation-of

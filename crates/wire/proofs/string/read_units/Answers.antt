@@ -1,7 +1,7 @@
 use mathlib.Core.Path.{_≡_, sym, ap, _∙_}
 use Prim.Native.Nat.{_≤_}
 use native.Mathlib.Omega.{arith}
-use Rattle.std.proofs.shelf.Lists.{length-append}
+use Rattle.std.proofs.shelf.Tests.{eqb-true, eqb-false}
 use Rattle.std.specs.Options.{mapped}
 use Rattle.std.specs.declared.option.Option.the-variants.{Some}
 use Rattle.wire.specs.Texts.{read-parts}
@@ -17,22 +17,22 @@ returns-in-Break-unit c =
     rw (c .from-residual .ensures)
     (ap (mapped read-parts) (sofar-short (c .args .bytes .now) (c .args .count) (c .loop-left .rest .now) (c .loop-left .left) (c .loop-left .inv) (c .in-Break-unit .ensures tt)))
 
-pub returns-then-unit-eq0 : need.returns-then-unit-eq0
-returns-then-unit-eq0 c =
-    ap (mapped read-parts) (sofar-zero (c .args .bytes .now) (c .args .count) (c .loop-left .rest .now) (c .loop-left .left) (c .loop-left .inv) (c .in-Continue-unit .unit) (c .in-Continue-unit .after .now) (c .in-Continue-unit .ensures tt) (omega arith) (c .if-unit-eq0 .taken))
+pub returns-then-is-closing : need.returns-then-is-closing
+returns-then-is-closing c =
+    ap (mapped read-parts) (sofar-zero (c .args .bytes .now) (c .args .count) (c .loop-left .rest .now) (c .loop-left .left) (c .loop-left .inv) (c .in-Continue-unit .unit) (c .in-Continue-unit .after .now) (c .in-Continue-unit .ensures tt) (omega arith) (eqb-true _ 0 (sym (c .if-is-closing .ensures tt))))
 
 pub loop-left-again : need.loop-left-again
 loop-left-again c =
-    sofar-more (c .args .bytes .now) (c .args .count) (c .loop-left .rest .now) (c .loop-left .left) (c .loop-left .inv) (c .in-Continue-unit .unit) (c .in-Continue-unit .after .now) (c .in-Continue-unit .ensures tt) (omega arith) (c .if-unit-eq0 .left)
+    sofar-more (c .args .bytes .now) (c .args .count) (c .loop-left .rest .now) (c .loop-left .left) (c .loop-left .inv) (c .in-Continue-unit .unit) (c .in-Continue-unit .after .now) (c .in-Continue-unit .ensures tt) (omega arith) (eqb-false _ 0 (sym (c .if-is-closing .ensures tt)))
 
 pub returns-in-Break-end : need.returns-in-Break-end
 returns-in-Break-end c =
     rw (c .from-residual-in-Break-end .ensures)
     (ap (mapped read-parts) (sofar-short (c .args .bytes .now) (c .args .count) (c .loop-left .rest .now) (c .loop-left .left) (c .loop-left .inv) (c .in-Break-end .ensures tt)))
 
-pub returns-then-end-ne0 : need.returns-then-end-ne0
-returns-then-end-ne0 c =
-    ap (mapped read-parts) (sofar-open (c .args .bytes .now) (c .args .count) (c .loop-left .rest .now) (c .loop-left .left) (c .loop-left .inv) (c .in-Continue-end .end) (c .in-Continue-end .behind .now) (c .in-Continue-end .ensures tt) (omega arith) (c .if-end-ne0 .taken))
+pub returns-then-not-is-closing : need.returns-then-not-is-closing
+returns-then-not-is-closing c =
+    ap (mapped read-parts) (sofar-open (c .args .bytes .now) (c .args .count) (c .loop-left .rest .now) (c .loop-left .left) (c .loop-left .inv) (c .in-Continue-end .end) (c .in-Continue-end .behind .now) (c .in-Continue-end .ensures tt) (omega arith) (eqb-false _ 0 (sym (c .if-not-is-closing .ensures tt))))
 
 pub split-at-requires : need.split-at-requires
 split-at-requires c κs = sofar-room (c .args .bytes .now) (c .args .count) (c .loop-left .rest .now) (c .loop-left .left) (c .loop-left .inv) (omega arith)
@@ -40,4 +40,4 @@ split-at-requires c κs = sofar-room (c .args .bytes .now) (c .args .count) (c .
 pub returns : need.returns
 returns c =
     ap (λ l. Some (units-in l, c .in-Continue-end .behind .now)) (c .split-at .ensures .front)
-    ∙ sofar-closed (c .args .bytes .now) (c .args .count) (c .loop-left .rest .now) (c .loop-left .left) (c .loop-left .inv) (c .in-Continue-end .end) (c .in-Continue-end .behind .now) (c .in-Continue-end .ensures tt) (omega arith) (c .if-end-ne0 .left)
+    ∙ sofar-closed (c .args .bytes .now) (c .args .count) (c .loop-left .rest .now) (c .loop-left .left) (c .loop-left .inv) (c .in-Continue-end .end) (c .in-Continue-end .behind .now) (c .in-Continue-end .ensures tt) (omega arith) (eqb-true _ 0 (sym (c .if-not-is-closing .ensures tt)))
