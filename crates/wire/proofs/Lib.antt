@@ -1,0 +1,10 @@
+pub mod Datasets
+pub mod Infos
+pub mod InfosBack
+pub mod Placed
+pub mod Places
+pub mod Puts
+pub mod ReadBack
+pub mod Rows
+pub mod Shown
+pub mod Units
