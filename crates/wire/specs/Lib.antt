@@ -1,0 +1,6 @@
+pub mod Containers
+pub mod DeviceInfos
+pub mod ObjectInfos
+pub mod Operations
+pub mod StorageInfos
+pub mod Strings

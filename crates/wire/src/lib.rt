@@ -1,0 +1,4 @@
+//! What crosses the cable: containers, strings, arrays and datasets.
+pub mod command;
+pub mod info;
+pub mod operation;
