@@ -7,12 +7,13 @@ use Prim.Native.Nat.{ℕ, suc, _+_, _≤_, _<_}
 use native.Mathlib.Omega.{arith}
 use lib.Dec.{eqb, ltb}
 use lib.ListN.{length}
+use Rattle.std.specs.shelf.Lists.{All}
 use Rattle.std.specs.declared.option.Option.{Option}
 use Rattle.std.specs.declared.option.Option.the-variants.{Some, None}
 use Rattle.std.proofs.shelf.Tests.{eqb-true, eqb-false, ltb-true, ltb-false, eq-eqb, ne-eqb, cases-eq, cases-order, or-parts}
 use Rattle.bytes.proofs.Cutting.{none-some, some-same}
 use Rattle.store.specs.Contents.{File, Entry, total, lookup}
-use Rattle.store.specs.Sound.{Ascending}
+use Rattle.store.specs.Sound.{Ascending, Each-file}
 use Rattle.store.specs.Changes.{inserted, without, has-children}
 
 abbrev pub entry : ℕ → File → Entry
@@ -173,3 +174,12 @@ same-files lo (x ∷ xs) (y ∷ ys) a b s =
     by (inl e) = e
     by (inr (inl l)) = absurd (same-first x y xs ys (b .1) s l)
     by (inr (inr l)) = absurd (same-first y x ys xs (a .1) (λ n. sym (s n)) l)
+
+-- a fact of each entry is one of every file
+pub each-from : (P : ℕ → File → Type 0) (es : List Entry) → All (λ (e : Entry). P (e .number) (e .file)) es → Each-file es P
+each-from P [] a n f e = absurd (none-some e)
+each-from P (x ∷ es) a n f e = by (each-from P es (a .1) n f) (cases-eq (x .number) n)
+  where
+    by : (lookup n es ≡ Some f → P n f) → (x .number ≡ n) ⊎ (x .number ≡ n → ⊥) → P n f
+    by rest (inl q) = subst (λ m. P m f) q (subst (λ g. P (x .number) g) (some-same (sym (lookup-here x es n q) ∙ e)) (a .0))
+    by rest (inr q) = rest (sym (lookup-past x es n q) ∙ e)

@@ -33,14 +33,22 @@ unfoldable pub container : ℕ → ℕ → ℕ → List ℕ → List ℕ
 container kind code transaction payload =
     le 4 (12 + length payload) ++ (le 2 kind ++ (le 2 code ++ (le 4 transaction ++ payload)))
 
+-- the head of a container whose payload has so many bytes
+abbrev pub head : ℕ → ℕ → ℕ → ℕ → List ℕ
+head kind code transaction len = le 4 (12 + len) ++ (le 2 kind ++ (le 2 code ++ le 4 transaction))
+
 -- the bytes are one container of this type
 abbrev pub is-container : ℕ → List ℕ → Bool
 is-container kind bs = leb 12 (length bs) && (eqb (number-at 4 0 bs) (length bs) && eqb (number-at 2 4 bs) kind)
 
 -- a command has at most five parameters of 4 bytes
+abbrev pub is-command : List ℕ → Bool
+is-command bs = is-container command-type bs && (leb (length bs) 32 && eqb (length bs % 4) 0)
+
+-- the command that the bytes are; a missing parameter counts as 0
 unfoldable pub command-in : List ℕ → Option Command
 command-in bs =
-    cond (is-container command-type bs && (leb (length bs) 32 && eqb (length bs % 4) 0))
+    cond (is-command bs)
     (Some (record {
       code = number-at 2 6 bs;
       transaction = number-at 4 8 bs;
@@ -48,10 +56,14 @@ command-in bs =
     }))
     None
 
--- the payload of one data container of this code and transaction
+-- the bytes are one data container of this code and transaction
+abbrev pub is-data : ℕ → ℕ → List ℕ → Bool
+is-data code transaction bs = is-container data-type bs && (eqb (number-at 2 6 bs) code && eqb (number-at 4 8 bs) transaction)
+
+-- its payload
 unfoldable pub payload-in : ℕ → ℕ → List ℕ → Option (List ℕ)
 payload-in code transaction bs =
-    cond (is-container data-type bs && (eqb (number-at 2 6 bs) code && eqb (number-at 4 8 bs) transaction)) (Some (drop 12 bs)) None
+    cond (is-data code transaction bs) (Some (drop 12 bs)) None
 
 abbrev pub data-container : ℕ → ℕ → List ℕ → List ℕ
 data-container code transaction payload = container data-type code transaction payload

@@ -24,12 +24,16 @@ abbrev pub unkept : ℕ → List ℕ
 unkept k = le k 0
 
 -- storage, format, protection, size, thumb format, thumb size, thumb width, thumb height, image width, image height, image
--- depth, parent, association type, association description, sequence number, then the name and three empty strings
-unfoldable pub object-info : ObjectInfo → List ℕ
-object-info i =
+-- depth, parent, association type, association description, sequence number
+abbrev pub object-fields : ObjectInfo → List ℕ
+object-fields i =
     le 4 (i .storage) ++ (le 2 (i .format) ++ (le 2 (protection-number (i .protection)) ++ (le 4 (i .size) ++ (unkept 2 ++ (unkept 4
     ++ (unkept 4 ++ (unkept 4 ++ (unkept 4 ++ (unkept 4 ++ (unkept 4 ++ (le 4 (i .parent) ++ (le 2 (association-type (i .format))
-    ++ (unkept 4 ++ (unkept 4 ++ (string (units-of (i .name)) ++ (string [] ++ (string [] ++ string [])))))))))))))))))
+    ++ (unkept 4 ++ unkept 4)))))))))))))
+
+-- the fields, the name and three empty strings
+unfoldable pub object-info : ObjectInfo → List ℕ
+object-info i = object-fields i ++ (string (units-of (i .name)) ++ (string [] ++ (string [] ++ string [])))
 
 abbrev pub rest-is : (List ℕ → Bool) → Option Read → Bool
 rest-is test None = false
@@ -41,6 +45,10 @@ are-strings zero [] = true
 are-strings zero (b ∷ bs) = false
 are-strings (suc n) bs = rest-is (λ rest. are-strings n rest) (string-in bs)
 
+-- the protection in the dataset, if there is such a one
+abbrev pub protection-at : List ℕ → Option Protection
+protection-at bs = protection-of (number-at 2 6 bs)
+
 abbrev pub info-from : List ℕ → Option Protection → Option Name → Option ObjectInfo
 info-from bs None name = None
 info-from bs (Some p) None = None
@@ -49,7 +57,7 @@ info-from bs (Some p) (Some n) =
 
 abbrev pub info-named : List ℕ → Option Read → Option ObjectInfo
 info-named bs None = None
-info-named bs (Some r) = cond (are-strings 3 (r .rest)) (info-from bs (protection-of (number-at 2 6 bs)) (named (r .units))) None
+info-named bs (Some r) = cond (are-strings 3 (r .rest)) (info-from bs (protection-at bs) (named (r .units))) None
 
 -- the reader: the fixed part, a legal name, three strings, and no byte beyond
 unfoldable pub object-info-in : List ℕ → Option ObjectInfo

@@ -18,9 +18,13 @@ abbrev pub storage-label : StorageKind → List ℕ
 storage-label Programs = codes "Programs"
 storage-label Handbook = codes "Handbook"
 
--- storage type, filesystem type 2, access capability (1 is read-only), capacity, free bytes, free objects, description and an
+-- 1 is read-only, 0 is for reading and writing
+abbrev pub access-capability : Bool → ℕ
+access-capability writable = cond writable 0 1
+
+-- storage type, filesystem type 2, access capability, capacity, free bytes, free objects, description and an
 -- empty volume identifier
 unfoldable pub storage-info : StorageInfo → List ℕ
 storage-info i =
-    le 2 (storage-type (i .kind)) ++ (le 2 2 ++ (le 2 (cond (i .writable) 0 1) ++ (le 8 (i .capacity) ++ (le 8 (i .«free_bytes»)
+    le 2 (storage-type (i .kind)) ++ (le 2 2 ++ (le 2 (access-capability (i .writable)) ++ (le 8 (i .capacity) ++ (le 8 (i .«free_bytes»)
     ++ (le 4 (i .«free_objects») ++ (string (storage-label (i .kind)) ++ string []))))))
