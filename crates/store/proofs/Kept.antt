@@ -42,7 +42,7 @@ folder-length f e t = by (or-cases (not (is-folder (f .format))) _ e)
     by (inl h) = absurd (both-ways (is-folder (f .format)) (not-true (is-folder (f .format)) h) t)
     by (inr h) = eqb-true (length (f .bytes)) 0 h
 
-parent-cases : (parent : ℕ) (es : List Entry) → is-parent parent es ≡ true → (parent ≡ 0) ⊎ (folder-there (lookup parent es) ≡ true)
+pub parent-cases : (parent : ℕ) (es : List Entry) → is-parent parent es ≡ true → (parent ≡ 0) ⊎ (folder-there (lookup parent es) ≡ true)
 parent-cases parent es e = by (or-cases (eqb parent 0) _ e)
   where
     by : (eqb parent 0 ≡ true) ⊎ (folder-there (lookup parent es) ≡ true) → (parent ≡ 0) ⊎ (folder-there (lookup parent es) ≡ true)
