@@ -1,3 +1,4 @@
 pub mod Effects
 pub mod Sampled
+pub mod Steps
 pub mod Ways
