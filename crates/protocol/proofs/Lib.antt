@@ -1,4 +1,5 @@
 pub mod Effects
 pub mod Sampled
+pub mod Staying
 pub mod Steps
 pub mod Ways

@@ -227,19 +227,40 @@ module _ (p : Storages) (s : OpenSession) (c : Command) (host : List ℕ) (room 
   task-went : Open-fits p (moved s) → Performs (task-of (c .code))
   unfolding task-of
   task-went fits =
-      by-rows Performs (c .code) tasks
-      (bare-row get-device-info _ refl refl refl,
-      (close-went,
-      (bare-row get-storage-ids _ refl refl refl,
-      (bare-row get-storage-info _ refl refl (storage-bare p (parameter 1 c)),
-      (bare-row get-object-handles _ refl refl (handles-bare p (parameter 1 c) (parameter 2 c) (parameter 3 c)),
-      (bare-row get-object-info _ refl refl (info-bare p (parameter 1 c)),
-      (bare-row get-object _ refl refl (object-bare p (parameter 1 c)),
-      (delete-went,
-      (info-went fits,
-      (send-went,
-      (look-row get-partial-object _ Any refl refl (part-any p (parameter 1 c) (parameter 2 c) (parameter 3 c)) (λ _ e _ n. absurd (n e)),
-      tt)))))))))))
+      by-rows Performs (c .code) tasks (
+        bare-row get-device-info _ refl refl refl,
+        (
+          close-went,
+          (
+            bare-row get-storage-ids _ refl refl refl,
+            (
+              bare-row get-storage-info _ refl refl (storage-bare p (parameter 1 c)),
+              (
+                bare-row get-object-handles _ refl refl (handles-bare p (parameter 1 c) (parameter 2 c) (parameter 3 c)),
+                (
+                  bare-row get-object-info _ refl refl (info-bare p (parameter 1 c)),
+                  (
+                    bare-row get-object _ refl refl (object-bare p (parameter 1 c)),
+                    (
+                      delete-went,
+                      (
+                        info-went fits,
+                        (
+                          send-went,
+                          (
+                            look-row get-partial-object _ Any refl refl (part-any p (parameter 1 c) (parameter 2 c) (parameter 3 c)) (λ _ e _ n. absurd (n e)),
+                            tt,
+                          ),
+                        ),
+                      ),
+                    ),
+                  ),
+                ),
+              ),
+            ),
+          ),
+        ),
+      )
       λ n _. plain-refusal OperationNotSupported refl (n .1 .1 .1 .1 .1 .1 .1 .1 .1 .0) (n .1 .1 .1 .1 .1 .1 .1 .1 .0)
 
   served-went : Open-fits p (moved s) → (o : Operation) → Went p s c host (served (passes-open o (moved s)) p c host room)

@@ -5,4 +5,5 @@ pub mod Invariant
 pub mod Looking
 pub mod Machine
 pub mod Samples
+pub mod Staying
 pub mod Storages

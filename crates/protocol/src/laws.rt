@@ -1,0 +1,13 @@
+//! The laws over every list of calls, as contracts: a caller that needs a law calls the function that bears it.
+ghost use Rattle.protocol.specs.Invariant.{Sessions-fit};
+ghost use Rattle.protocol.specs.Staying.{Stores-kept, One-at-a-time};
+
+/// Every list of calls keeps both stores sound, and the second store, the lock, the capacity and the limit as they were; each call
+/// changes at most one number; and the session fits its stores.
+pub fn calls_keep_stores_sound() -> u8
+    ensures kept { λ _. ⌜ Stores-kept ⌝ }
+    ensures single { λ _. ⌜ One-at-a-time ⌝ }
+    ensures session { λ _. ⌜ Sessions-fit ⌝ }
+{
+    0
+}
