@@ -2,6 +2,7 @@ pub mod Acting
 pub mod Checks
 pub mod Faults
 pub mod Invariant
+pub mod Keeping
 pub mod Looking
 pub mod Machine
 pub mod Samples

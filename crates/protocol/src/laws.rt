@@ -1,5 +1,6 @@
 //! The laws over every list of calls, as contracts: a caller that needs a law calls the function that bears it.
 ghost use Rattle.protocol.specs.Invariant.{Sessions-fit};
+ghost use Rattle.protocol.specs.Keeping.{Handles-keep-bytes};
 ghost use Rattle.protocol.specs.Staying.{Stores-kept, One-at-a-time};
 
 /// Every list of calls keeps both stores sound, and the second store, the lock, the capacity and the limit as they were; each call
@@ -8,6 +9,13 @@ pub fn calls_keep_stores_sound() -> u8
     ensures kept { λ _. ⌜ Stores-kept ⌝ }
     ensures single { λ _. ⌜ One-at-a-time ⌝ }
     ensures session { λ _. ⌜ Sessions-fit ⌝ }
+{
+    0
+}
+
+/// In each session a handle gets bytes at most once, reads send just these bytes or their part, and a handle that is given is new.
+pub fn handles_keep_their_bytes() -> u8
+    ensures { λ _. ⌜ Handles-keep-bytes ⌝ }
 {
     0
 }
