@@ -1,7 +1,11 @@
+pub mod Alike
 pub mod Bindings
 pub mod Effects
+pub mod Found
 pub mod Keeping
 pub mod Looks
+pub mod ReadBack
+pub mod Reading
 pub mod Sampled
 pub mod Staying
 pub mod Steps

@@ -1,10 +1,13 @@
 pub mod Acting
+pub mod Alike
 pub mod Checks
 pub mod Faults
 pub mod Invariant
 pub mod Keeping
 pub mod Looking
 pub mod Machine
+pub mod Objects
+pub mod ReadBack
 pub mod Samples
 pub mod Staying
 pub mod Storages

@@ -1,6 +1,8 @@
 //! The laws over every list of calls, as contracts: a caller that needs a law calls the function that bears it.
+ghost use Rattle.protocol.specs.Alike.{Replies-tell-contents};
 ghost use Rattle.protocol.specs.Invariant.{Sessions-fit};
 ghost use Rattle.protocol.specs.Keeping.{Handles-keep-bytes};
+ghost use Rattle.protocol.specs.ReadBack.{Infos-read-back};
 ghost use Rattle.protocol.specs.Staying.{Stores-kept, One-at-a-time};
 
 /// Every list of calls keeps both stores sound, and the second store, the lock, the capacity and the limit as they were; each call
@@ -16,6 +18,20 @@ pub fn calls_keep_stores_sound() -> u8
 /// In each session a handle gets bytes at most once, reads send just these bytes or their part, and a handle that is given is new.
 pub fn handles_keep_their_bytes() -> u8
     ensures { λ _. ⌜ Handles-keep-bytes ⌝ }
+{
+    0
+}
+
+/// Two sound pairs of storages are equal exactly when new responders over them reply alike to every list of calls.
+pub fn replies_tell_contents() -> u8
+    ensures { λ _. ⌜ Replies-tell-contents ⌝ }
+{
+    0
+}
+
+/// In every list of calls, what an accepted GetObjectInfo sends is read back as the record of that file.
+pub fn infos_read_back() -> u8
+    ensures { λ _. ⌜ Infos-read-back ⌝ }
 {
     0
 }
