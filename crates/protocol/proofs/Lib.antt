@@ -6,6 +6,7 @@ pub mod Keeping
 pub mod Looks
 pub mod ReadBack
 pub mod Reading
+pub mod Refusals
 pub mod Sampled
 pub mod Staying
 pub mod Steps

@@ -8,6 +8,7 @@ pub mod Looking
 pub mod Machine
 pub mod Objects
 pub mod ReadBack
+pub mod Refusals
 pub mod Samples
 pub mod Staying
 pub mod Storages

@@ -1,6 +1,7 @@
 -- Objects and their handles, as the laws speak of them.
 use mathlib.Core.Path.{_≡_}
 use mathlib.Core.Logic.{_⊎_}
+use mathlib.Core.List.{List, [], _∷_}
 use Prim.Native.Nat.{ℕ, _+_}
 use Rattle.std.specs.declared.option.Option.the-variants.{Some}
 use Rattle.store.specs.Contents.{File, lookup}
@@ -20,3 +21,8 @@ pub record Object (p : Storages) (h storage : ℕ) (f : File) : Type 0 where
   pub number : ℕ
   pub handle : Handle storage number h
   pub held : Holds p storage number f
+
+-- a number is in a list
+abbrev pub In : ℕ → List ℕ → Type 0
+In n [] = ⊥
+In n (m ∷ ms) = (m ≡ n) ⊎ In n ms
