@@ -3,6 +3,7 @@ pub mod Bindings
 pub mod Effects
 pub mod Found
 pub mod Keeping
+pub mod Listing
 pub mod Looks
 pub mod ReadBack
 pub mod Reading

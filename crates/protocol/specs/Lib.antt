@@ -4,6 +4,7 @@ pub mod Checks
 pub mod Faults
 pub mod Invariant
 pub mod Keeping
+pub mod Listing
 pub mod Looking
 pub mod Machine
 pub mod Objects
