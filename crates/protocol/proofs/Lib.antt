@@ -8,6 +8,7 @@ pub mod Looks
 pub mod ReadBack
 pub mod Reading
 pub mod Refusals
+pub mod Responses
 pub mod Sampled
 pub mod Staying
 pub mod Steps

@@ -10,6 +10,7 @@ pub mod Machine
 pub mod Objects
 pub mod ReadBack
 pub mod Refusals
+pub mod Responses
 pub mod Samples
 pub mod Staying
 pub mod Storages

@@ -2,7 +2,10 @@
 ghost use Rattle.protocol.specs.Alike.{Replies-tell-contents};
 ghost use Rattle.protocol.specs.Invariant.{Sessions-fit};
 ghost use Rattle.protocol.specs.Keeping.{Handles-keep-bytes};
+ghost use Rattle.protocol.specs.Listing.{Listings-right};
 ghost use Rattle.protocol.specs.ReadBack.{Infos-read-back};
+ghost use Rattle.protocol.specs.Refusals.{Refusals-leave, Same-transaction, Infos-answered};
+ghost use Rattle.protocol.specs.Responses.{Responses-tell-replies};
 ghost use Rattle.protocol.specs.Staying.{Stores-kept, One-at-a-time};
 
 /// Every list of calls keeps both stores sound, and the second store, the lock, the capacity and the limit as they were; each call
@@ -32,6 +35,30 @@ pub fn replies_tell_contents() -> u8
 /// In every list of calls, what an accepted GetObjectInfo sends is read back as the record of that file.
 pub fn infos_read_back() -> u8
     ensures { λ _. ⌜ Infos-read-back ⌝ }
+{
+    0
+}
+
+/// A refusal sends nothing and changes no store, and of the session only what is said; a cancel changes no store and never opens,
+/// closes or announces; the expected transaction moves with each command that has it; SendObjectInfo answers its own numbers only.
+pub fn refusals_leave_the_rest() -> u8
+    ensures left { λ _. ⌜ Refusals-leave ⌝ }
+    ensures transaction { λ _. ⌜ Same-transaction ⌝ }
+    ensures numbers { λ _. ⌜ Infos-answered ⌝ }
+{
+    0
+}
+
+/// In every list of calls, an accepted GetObjectHandles sends just the handles that it is asked for, ascending.
+pub fn listings_are_right() -> u8
+    ensures { λ _. ⌜ Listings-right ⌝ }
+{
+    0
+}
+
+/// Responses as bytes determine the reply, and every reply to calls that a host can make fits its response.
+pub fn responses_tell_replies() -> u8
+    ensures { λ _. ⌜ Responses-tell-replies ⌝ }
 {
     0
 }
