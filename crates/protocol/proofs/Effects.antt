@@ -37,7 +37,8 @@ use Rattle.protocol.specs.declared.session.Session.the-variants.{Closed, Open}
 use Rattle.protocol.specs.declared.session.Transfer.{Transfer}
 use Rattle.protocol.specs.declared.session.Transfer.the-variants.{Idle, Announced}
 use Rattle.protocol.specs.Faults.{ok, operation-fault-number, parameters-of, of-store, of-dataset}
-use Rattle.protocol.specs.Storages.{Storages, first-storage, second-storage, is-storage, second-base, object-at, parameter}
+use Rattle.protocol.specs.Commands.{parameter}
+use Rattle.protocol.specs.Storages.{Storages, first-storage, second-storage, is-storage, second-base, object-at}
 use Rattle.protocol.specs.Acting.{Outcome, settled, accepts, session-opened, session-closed, object-deleted, is-unprotected, info-sent, dataset-in, parent-number, parent-told, given-next, at-rest, file-of, announced, object-sent, sent-for, announcement-in, payload-of-size}
 use Rattle.protocol.specs.Invariant.{Stands, Open-fits, Transfer-fits}
 use Rattle.protocol.proofs.Ways.{present-ways, and-then-ways, cond-ways, settled-ways}

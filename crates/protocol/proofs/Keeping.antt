@@ -29,7 +29,8 @@ use Rattle.protocol.specs.declared.session.Session.the-variants.{Closed, Open}
 use Rattle.protocol.specs.declared.session.Transfer.{Transfer}
 use Rattle.protocol.specs.declared.session.Transfer.the-variants.{Idle, Announced}
 use Rattle.protocol.specs.Faults.{ok, operation-fault-number}
-use Rattle.protocol.specs.Storages.{Storages, Sound-storages, second-base, object-at, parameter}
+use Rattle.protocol.specs.Commands.{parameter}
+use Rattle.protocol.specs.Storages.{Storages, Sound-storages, second-base, object-at}
 use Rattle.protocol.specs.Looking.{Shown}
 use Rattle.protocol.specs.Acting.{given-next, at-rest, file-of}
 use Rattle.protocol.specs.Invariant.{Open-fits, State-fits}

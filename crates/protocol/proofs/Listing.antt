@@ -26,7 +26,8 @@ use Rattle.protocol.specs.declared.session.OpenSession.{OpenSession}
 use Rattle.protocol.specs.declared.session.Session.{Session}
 use Rattle.protocol.specs.declared.session.Session.the-variants.{Closed, Open}
 use Rattle.protocol.specs.Faults.{ok}
-use Rattle.protocol.specs.Storages.{Storages, Sound-storages, first-storage, second-storage, every-storage, root, is-storage, second-base, storage-of, number-of, object-at, parameter}
+use Rattle.protocol.specs.Commands.{parameter}
+use Rattle.protocol.specs.Storages.{Storages, Sound-storages, first-storage, second-storage, every-storage, root, is-storage, second-base, storage-of, number-of, object-at}
 use Rattle.protocol.specs.Looking.{Shown, handles-on, names, handles-in, handles-shown}
 use Rattle.protocol.specs.Objects.{Handle, Holds, Object, In}
 use Rattle.protocol.specs.Listing.{Names, Lies-in, Rising, Lists, Listed, Listings-right}

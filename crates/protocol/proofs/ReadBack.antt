@@ -10,7 +10,8 @@ use Rattle.protocol.specs.declared.session.OpenSession.{OpenSession}
 use Rattle.protocol.specs.declared.session.Session.{Session}
 use Rattle.protocol.specs.declared.session.Session.the-variants.{Closed, Open}
 use Rattle.protocol.specs.Faults.{ok}
-use Rattle.protocol.specs.Storages.{Storages, Sound-storages, parameter}
+use Rattle.protocol.specs.Commands.{parameter}
+use Rattle.protocol.specs.Storages.{Storages, Sound-storages}
 use Rattle.protocol.specs.Looking.{Shown, info-of}
 use Rattle.protocol.specs.Invariant.{State-fits}
 use Rattle.protocol.specs.Machine.{State, Answer, Call, answered, state-after, fresh, data-of}

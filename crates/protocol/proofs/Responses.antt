@@ -27,7 +27,8 @@ use Rattle.protocol.specs.declared.session.OpenSession.{OpenSession}
 use Rattle.protocol.specs.declared.session.Session.{Session}
 use Rattle.protocol.specs.declared.session.Session.the-variants.{Closed, Open}
 use Rattle.protocol.specs.Faults.{ok, operation-fault-number, parameters-of}
-use Rattle.protocol.specs.Storages.{Storages, Sound-storages, root, parameter}
+use Rattle.protocol.specs.Commands.{parameter}
+use Rattle.protocol.specs.Storages.{Storages, Sound-storages, root}
 use Rattle.protocol.specs.Looking.{Shown, part}
 use Rattle.protocol.specs.Acting.{is-root, parent-told, at-rest}
 use Rattle.protocol.specs.Invariant.{Open-fits, Session-fits, State-fits}

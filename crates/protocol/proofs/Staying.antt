@@ -26,7 +26,8 @@ use Rattle.protocol.specs.declared.session.Session.{Session}
 use Rattle.protocol.specs.declared.session.Session.the-variants.{Closed, Open}
 use Rattle.protocol.specs.declared.session.Transfer.{Transfer}
 use Rattle.protocol.specs.declared.session.Transfer.the-variants.{Idle, Announced}
-use Rattle.protocol.specs.Storages.{Storages, Sound-storages, parameter}
+use Rattle.protocol.specs.Commands.{parameter}
+use Rattle.protocol.specs.Storages.{Storages, Sound-storages}
 use Rattle.protocol.specs.Acting.{given-next, at-rest}
 use Rattle.protocol.specs.Invariant.{Stands, Transfer-fits, Open-fits, Session-fits, State-fits, Sessions-fit}
 use Rattle.protocol.specs.Machine.{State, Answer, Call, answer, cancel, unplug, moved, with-first, next-state, state-after, fresh, answered, cancelled, unplugged}

@@ -30,7 +30,8 @@ use Rattle.protocol.specs.declared.session.Session.{Session}
 use Rattle.protocol.specs.declared.session.Session.the-variants.{Closed, Open}
 use Rattle.protocol.specs.declared.session.Transfer.{Transfer}
 use Rattle.protocol.specs.Faults.{ok, operation-fault-number, parameters-of}
-use Rattle.protocol.specs.Storages.{Storages, first-storage, every-storage, root, is-storage, storage-of, object-at, parameter}
+use Rattle.protocol.specs.Commands.{parameter}
+use Rattle.protocol.specs.Storages.{Storages, first-storage, every-storage, root, is-storage, storage-of, object-at}
 use Rattle.protocol.specs.Looking.{Shown, device-shown, storages-shown, storage-shown, handles-shown, children-shown, names, info-shown, object-shown, part-shown}
 use Rattle.protocol.specs.Acting.{Outcome, session-opened, given-next, at-rest}
 use Rattle.protocol.specs.Invariant.{Open-fits}

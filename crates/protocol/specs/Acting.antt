@@ -32,7 +32,8 @@ use Rattle.protocol.specs.declared.session.Transfer.{Transfer}
 use Rattle.protocol.specs.declared.session.Transfer.the-variants.{Idle, Announced}
 use Rattle.protocol.specs.Checks.{present, and-then}
 use Rattle.protocol.specs.Faults.{ok, operation-fault-number, parameters-of, of-store, of-dataset}
-use Rattle.protocol.specs.Storages.{Storages, first-storage, second-storage, root, is-storage, second-base, object-at, parameter}
+use Rattle.protocol.specs.Commands.{parameter}
+use Rattle.protocol.specs.Storages.{Storages, first-storage, second-storage, root, is-storage, second-base, object-at}
 
 pub record Outcome : Type 0 where
   pub code : ℕ

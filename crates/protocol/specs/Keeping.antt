@@ -13,7 +13,8 @@ use Rattle.wire.specs.declared.command.Command.{Command}
 use Rattle.wire.specs.Containers.{data-container, payload-in}
 use Rattle.wire.specs.Operations.{open-session, close-session, get-object, get-partial-object, send-object-info, send-object}
 use Rattle.protocol.specs.Faults.{ok}
-use Rattle.protocol.specs.Storages.{Storages, Sound-storages, parameter}
+use Rattle.protocol.specs.Commands.{parameter}
+use Rattle.protocol.specs.Storages.{Storages, Sound-storages}
 use Rattle.protocol.specs.Machine.{Reply, Call, Event, answers, cancels, unplugs, event, history, next-state, state-after, fresh}
 
 -- a handle, and the bytes bound to it

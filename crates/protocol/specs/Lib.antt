@@ -1,6 +1,7 @@
 pub mod Acting
 pub mod Alike
 pub mod Checks
+pub mod Commands
 pub mod Faults
 pub mod Invariant
 pub mod Keeping

@@ -19,7 +19,8 @@ use Rattle.protocol.specs.declared.session.OpenSession.{OpenSession}
 use Rattle.protocol.specs.declared.session.Session.{Session}
 use Rattle.protocol.specs.declared.session.Session.the-variants.{Closed, Open}
 use Rattle.protocol.specs.Faults.{ok, operation-fault-number, parameters-of}
-use Rattle.protocol.specs.Storages.{Storages, parameter}
+use Rattle.protocol.specs.Commands.{parameter}
+use Rattle.protocol.specs.Storages.{Storages}
 use Rattle.protocol.specs.Looking.{Shown, device-shown, storages-shown, storage-shown, handles-shown, info-shown, object-shown, part-shown}
 use Rattle.protocol.specs.Acting.{Outcome, session-opened, session-closed, object-deleted, info-sent, object-sent}
 

@@ -13,7 +13,8 @@ use Rattle.wire.specs.Containers.{data-container}
 use Rattle.wire.specs.ObjectInfos.{object-info-in}
 use Rattle.wire.specs.Operations.{get-object-info}
 use Rattle.protocol.specs.Faults.{ok}
-use Rattle.protocol.specs.Storages.{Storages, Sound-storages, parameter}
+use Rattle.protocol.specs.Commands.{parameter}
+use Rattle.protocol.specs.Storages.{Storages, Sound-storages}
 use Rattle.protocol.specs.Objects.{Handle, Object}
 use Rattle.protocol.specs.Machine.{Reply, Call, answered, state-after, fresh}
 

@@ -2,11 +2,9 @@
 use mathlib.Core.Bool.{Bool, cond, _||_}
 use Prim.Native.Nat.{ℕ, _+_, _-_}
 use lib.Dec.{eqb, ltb}
-use lib.ListN.{getD}
 use Rattle.std.specs.declared.option.Option.{Option}
 use Rattle.store.specs.Contents.{File, Contents, lookup}
 use Rattle.store.specs.Sound.{Sound}
-use Rattle.wire.specs.declared.command.Command.{Command}
 
 -- what the first store holds and whether it is locked, and what the second holds
 pub record Storages : Type 0 where
@@ -49,7 +47,3 @@ number-of h = cond (ltb h second-base) h (h - second-base)
 -- the file with this handle, if it is there
 unfoldable pub object-at : Storages → ℕ → Option File
 object-at p h = cond (ltb h second-base) (lookup h (p .first .files)) (lookup (h - second-base) (p .second .files))
-
--- a command's parameters, counted from 1
-abbrev pub parameter : ℕ → Command → ℕ
-parameter i c = getD (c .parameters) (i - 1) 0

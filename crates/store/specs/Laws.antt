@@ -87,3 +87,13 @@ pub record Just-past (es : List Entry) (n : ℕ) : Type 0 where
 
 abbrev pub Past-last : Type 0
 Past-last = (c : Contents) → Sound c → Just-past (c .files) (past-last 1 (c .files))
+
+-- the parents of a number lead to the root, folder by folder
+pub data Reaches-root (es : List Entry) : ℕ → Type 0 where
+  root : Reaches-root es 0
+  step : (n : ℕ) (f : File) → lookup n es ≡ Some f → Reaches-root es (f .parent) → Reaches-root es n
+
+-- every parent is the root or a folder, and every chain of parents reaches the root
+pub record Parents-lead : Type 0 where
+  pub folders : (c : Contents) → Sound c → Each-file (c .files) (λ n f. (f .parent ≡ 0) ⊎ (folder-there (lookup (f .parent) (c .files)) ≡ true))
+  pub chains : (c : Contents) → Sound c → Each-file (c .files) (λ n f. Reaches-root (c .files) n)
