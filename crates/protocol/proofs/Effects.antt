@@ -11,11 +11,16 @@ use Rattle.std.specs.declared.option.Option.{Option}
 use Rattle.std.specs.declared.option.Option.the-variants.{Some, None}
 use Rattle.std.specs.declared.result.Result.{Result}
 use Rattle.std.specs.declared.result.Result.the-variants.{Ok, Err}
-use Rattle.std.proofs.shelf.Tests.{and-parts, eqb-true, eqb-false, eq-eqb, leb-true, ltb-true, not-true, or-cases, cases-bool, both-ways, true≢false}
-use Rattle.object.specs.Formats.{is-folder, format-of}
+use Rattle.std.proofs.shelf.Tests.{and-parts, eqb-true, eqb-false, eq-eqb, leb-true, ltb-true, not-true, or-cases, cases-bool, both-ways, true≢false, cond-true}
+use Rattle.bytes.proofs.Cutting.{none-some, some-same}
+use Rattle.object.specs.Formats.{is-folder, format-of, format-number, formats}
+use Rattle.object.specs.Numbered.{with-number}
 use Rattle.object.specs.declared.format.Format.{Format}
+use Rattle.object.specs.declared.protection.Protection.{Protection}
+use Rattle.object.specs.declared.protection.Protection.the-variants.{Unprotected, ReadOnly}
 use Rattle.store.specs.declared.fault.StoreFault.{StoreFault}
 use Rattle.store.specs.declared.fault.StoreFault.the-variants as stores
+use Rattle.store.specs.Checks.{provided}
 use Rattle.store.specs.Contents.{File, Entry, Contents, total, lookup}
 use Rattle.store.specs.Sound.{is-parent, folder-there, last-number, max-length}
 use Rattle.store.specs.Changes.{added, removed, inserted, with-files, has-room, past-last}
@@ -36,10 +41,12 @@ use Rattle.protocol.specs.declared.session.Session.{Session}
 use Rattle.protocol.specs.declared.session.Session.the-variants.{Closed, Open}
 use Rattle.protocol.specs.declared.session.Transfer.{Transfer}
 use Rattle.protocol.specs.declared.session.Transfer.the-variants.{Idle, Announced}
+use Rattle.protocol.specs.Accepted.{At-root-or, Announces}
+use Rattle.protocol.specs.Checks.{present}
 use Rattle.protocol.specs.Faults.{ok, operation-fault-number, parameters-of, of-store, of-dataset}
 use Rattle.protocol.specs.Commands.{parameter}
-use Rattle.protocol.specs.Storages.{Storages, first-storage, second-storage, is-storage, second-base, object-at}
-use Rattle.protocol.specs.Acting.{Outcome, settled, accepts, session-opened, session-closed, object-deleted, is-unprotected, info-sent, dataset-in, parent-number, parent-told, given-next, at-rest, file-of, announced, object-sent, sent-for, announcement-in, payload-of-size}
+use Rattle.protocol.specs.Storages.{Storages, first-storage, second-storage, root, is-storage, second-base, object-at}
+use Rattle.protocol.specs.Acting.{Outcome, settled, accepts, session-opened, session-closed, object-deleted, is-unprotected, info-sent, dataset-in, is-root, parent-number, parent-told, given-next, at-rest, file-of, announced, object-sent, sent-for, announcement-in, payload-of-size}
 use Rattle.protocol.specs.Invariant.{Stands, Open-fits, Transfer-fits}
 use Rattle.protocol.proofs.Ways.{present-ways, and-then-ways, cond-ways, settled-ways}
 
@@ -107,21 +114,36 @@ dataset-later datasets.IncompleteTransfer = ((λ e. omega arith), (λ e. omega a
 dataset-later datasets.InvalidDataset = ((λ e. omega arith), (λ e. omega arith), (λ e. omega arith))
 dataset-later datasets.BufferTooShort = ((λ e. omega arith), (λ e. omega arith), (λ e. omega arith))
 
+-- what an accepted DeleteObject found and did
+pub record Deletes (p : Storages) (h : ℕ) (d : Contents) : Type 0 where
+  pub file : File
+  pub there : lookup h (p .first .files) ≡ Some file
+  pub unprotected : file .protection ≡ Unprotected
+  pub change : removed (p .locked) h (p .first) ≡ Ok d
+
+unprotected-is : (x : Protection) → is-unprotected x ≡ true → x ≡ Unprotected
+unprotected-is Unprotected e = refl
+unprotected-is ReadOnly e = absurd (true≢false (sym e))
+
+first-at : (p : Storages) (h : ℕ) → ltb h second-base ≡ true → object-at p h ≡ lookup h (p .first .files)
+unfolding object-at
+first-at p h t = cond-true (ltb h second-base) _ _ t
+
 -- DeleteObject
 pub delete-law : (P : Outcome → Type 0) (p : Storages) (s : OpenSession) (h format : ℕ)
     → ((f : OperationFault) → Plain f → P (refusal f (p .first) (Open s)))
-    → ((d : Contents) → removed (p .locked) h (p .first) ≡ Ok d → P (acceptance [] d (Open s)))
+    → ((d : Contents) → Deletes p h d → P (acceptance [] d (Open s)))
     → P (object-deleted p s h format)
 unfolding object-deleted
 delete-law P p s h format r a =
     let Q : OperationFault → Type 0 = λ f. P (refusal f (p .first) (Open s)) in
     settled-ways P (p .first) (Open s) _
     (checked P Q (eqb format 0) FormatNotSupported _ (r FormatNotSupported refl) λ _.
-    present-ways P Q (object-at p h) InvalidHandle _ (r InvalidHandle refl) λ f _.
-    checked P Q (ltb h second-base) StoreReadOnly _ (r StoreReadOnly refl) λ _.
-    checked P Q (is-unprotected (f .protection)) ObjectProtected _ (r ObjectProtected refl) λ _.
+    present-ways P Q (object-at p h) InvalidHandle _ (r InvalidHandle refl) λ f found.
+    checked P Q (ltb h second-base) StoreReadOnly _ (r StoreReadOnly refl) λ low.
+    checked P Q (is-unprotected (f .protection)) ObjectProtected _ (r ObjectProtected refl) λ free.
     and-then-ways P Q (removed (p .locked) h (p .first)) of-store _ (λ e _. r (of-store e) (store-plain e)) λ d q.
-    a d q)
+    a d (record { file = f; there = sym (first-at p h low) ∙ found; unprotected = unprotected-is (f .protection) free; change = q }))
 
 -- the refusals that SendObjectInfo gives itself
 pub data Info-fault : OperationFault → Type 0 where
@@ -148,19 +170,60 @@ abbrev pub handles-told : OpenSession → Command → List ℕ
 handles-told s c = first-storage ∷ parent-told (parameter 2 c) ∷ s .next ∷ []
 
 -- what an accepted SendObjectInfo leads to: a folder that is added at once, or an announcement that stands
-pub data Gives (p : Storages) (s : OpenSession) : Contents → Transfer → Type 0 where
-  a-folder : (f : File) (d : Contents) → is-folder (f .format) ≡ true → added (p .locked) (s .next) f (p .first) ≡ Ok d → Gives p s d Idle
-  a-file : (a : Announcement) → a .number ≡ s .next → Stands p (suc (s .next)) a → Gives p s (p .first) (Announced a)
+pub data Gives (p : Storages) (s : OpenSession) (c : Command) (host : List ℕ) : Contents → Transfer → Type 0 where
+  a-folder : (a : Announcement) (d : Contents) → a .number ≡ s .next → Announces c host a → is-folder (a .format) ≡ true
+      → added (p .locked) (s .next) (file-of a []) (p .first) ≡ Ok d → Gives p s c host d Idle
+  a-file : (a : Announcement) → a .number ≡ s .next → Announces c host a → is-folder (a .format) ≡ false → Stands p (suc (s .next)) a
+      → Gives p s c host (p .first) (Announced a)
+
+-- what has a number has it
+numbered : {A : Type 0} (number : A → ℕ) (xs : List A) (n : ℕ) (x : A) → with-number number xs n ≡ Some x → number x ≡ n
+numbered number [] n x e = absurd (none-some e)
+numbered number (y ∷ ys) n x e = by (λ r. numbered number ys n x r) (eqb n (number y)) refl e
+  where
+    by : (with-number number ys n ≡ Some x → number x ≡ n) → (t : Bool) → eqb n (number y) ≡ t → cond t (Some y) (with-number number ys n) ≡ Some x → number x ≡ n
+    by rest true q e = ap number (sym (some-same e)) ∙ sym (eqb-true n (number y) q)
+    by rest false q e = rest e
+
+-- a dataset that was read was received
+dataset-read : (c : Command) (host : List ℕ) (i : ObjectInfo) → dataset-in c host ≡ Ok i
+    → (xs : List ℕ) × (payload-in (c .code) (c .transaction) host ≡ Some xs) × (object-info-in xs ≡ Some i)
+dataset-read c host i e = by (payload-in (c .code) (c .transaction) host) e
+  where
+    last : (o : Option ObjectInfo) → present o datasets.InvalidDataset (λ j. Ok j) ≡ Ok i → o ≡ Some i
+    last None q = absurd (let z : _≡_ {A = ℕ} 0 1 = cc in omega arith)
+    last (Some j) q = ap Some (let z : j ≡ i = cc in z)
+
+    by : (o : Option (List ℕ)) → present o datasets.IncompleteTransfer (λ xs. present (object-info-in xs) datasets.InvalidDataset (λ j. Ok j)) ≡ Ok i
+        → (xs : List ℕ) × (o ≡ Some xs) × (object-info-in xs ≡ Some i)
+    by None q = absurd (let z : _≡_ {A = ℕ} 0 1 = cc in omega arith)
+    by (Some xs) q = (xs, refl, last (object-info-in xs) q)
+
+-- the parent by the parameter
+root-or : (n at-root : ℕ) → At-root-or n at-root (cond (is-root n) at-root n)
+root-or n at-root = by (eqb n 0) refl (eqb n root) refl
+  where
+    by : (t : Bool) → eqb n 0 ≡ t → (u : Bool) → eqb n root ≡ u → At-root-or n at-root (cond (t || u) at-root n)
+    by true e u f = inl (inl (eqb-true n 0 e), refl)
+    by false e true f = inl (inr (eqb-true n root f), refl)
+    by false e false f = inr (no, refl)
+      where
+        no : (n ≡ 0) ⊎ (n ≡ root) → ⊥
+        no (inl q) = eqb-false n 0 e q
+        no (inr q) = eqb-false n root f q
+
+pub parent-tells : (c : Command) → At-root-or (parameter 2 c) root (parent-told (parameter 2 c))
+parent-tells c = root-or (parameter 2 c) root
 
 dataset-fault : (Q : OperationFault → Type 0) (c : Command) (host : List ℕ) (e : DatasetFault)
     → Q IncompleteTransfer → Q InvalidDataset → dataset-in c host ≡ Err e → Q (of-dataset e)
 dataset-fault Q c host e a b q = by (payload-in (c .code) (c .transaction) host) q
   where
-    last : (o : Option ObjectInfo) → Rattle.protocol.specs.Checks.present o datasets.InvalidDataset (λ i. Ok i) ≡ Err e → Q (of-dataset e)
+    last : (o : Option ObjectInfo) → present o datasets.InvalidDataset (λ i. Ok i) ≡ Err e → Q (of-dataset e)
     last None q = subst (λ f. Q (of-dataset f)) (let z : datasets.InvalidDataset ≡ e = cc in z) b
     last (Some i) q = absurd (let z : _≡_ {A = ℕ} 0 1 = cc in omega arith)
 
-    by : (o : Option (List ℕ)) → Rattle.protocol.specs.Checks.present o datasets.IncompleteTransfer (λ xs. Rattle.protocol.specs.Checks.present (object-info-in xs) datasets.InvalidDataset (λ i. Ok i)) ≡ Err e → Q (of-dataset e)
+    by : (o : Option (List ℕ)) → present o datasets.IncompleteTransfer (λ xs. present (object-info-in xs) datasets.InvalidDataset (λ i. Ok i)) ≡ Err e → Q (of-dataset e)
     by None q = subst (λ f. Q (of-dataset f)) (let z : datasets.IncompleteTransfer ≡ e = cc in z) a
     by (Some xs) q = last (object-info-in xs) q
 
@@ -184,16 +247,16 @@ next-new p s fits = by (lookup (s .next) (p .first .files)) refl
     by (Some f) e = absurd (omega (arith, fits .next-above (s .next) f e))
 
 -- SendObjectInfo, in a session that fits: its refusals are its own, since the store then takes every folder
-module _ (P : Outcome → Type 0) (p : Storages) (s : OpenSession) (c : Command) (fits : Open-fits p s)
+module _ (P : Outcome → Type 0) (p : Storages) (s : OpenSession) (c : Command) (host : List ℕ) (fits : Open-fits p s)
     (r : (f : OperationFault) → Info-fault f → P (refusal f (p .first) (Open s)))
-    (a : (d : Contents) (t : Transfer) → s .next ≤ last-number → Gives p s d t → P (acceptance (handles-told s c) d (Open (given-next s t)))) where
+    (a : (d : Contents) (t : Transfer) → s .next ≤ last-number → Gives p s c host d t → P (acceptance (handles-told s c) d (Open (given-next s t)))) where
   abbrev Q : OperationFault → Type 0
   Q f = P (refusal f (p .first) (Open s))
 
-  announced-ways : (x : Announcement) → x .number ≡ s .next → p .locked ≡ false → (is-folder (x .format) ≡ true → x .size ≡ 0)
+  announced-ways : (x : Announcement) → x .number ≡ s .next → Announces c host x → p .locked ≡ false → (is-folder (x .format) ≡ true → x .size ≡ 0)
       → is-parent (x .parent) (p .first .files) ≡ true → x .size ≤ max-length → has-room (x .size) (p .first) ≡ true → s .next ≤ last-number
       → Either-way P Q (announced p s (handles-told s c) x)
-  announced-ways x number unlocked folder parent short room last =
+  announced-ways x number from unlocked folder parent short room last =
       let rooms = and-parts (ltb (length (p .first .files)) (p .first .limit)) _ room in
       let place = ltb-true (length (p .first .files)) (p .first .limit) (rooms .0) in
       let bytes = leb-true (total (p .first .files) + x .size) (p .first .capacity) (rooms .1) in
@@ -218,10 +281,10 @@ module _ (P : Outcome → Type 0) (p : Storages) (s : OpenSession) (c : Command)
       (added-taken (s .next) (file-of x []) (p .first) fit) in
       and-then-ways P Q (added (p .locked) (s .next) (file-of x []) (p .first)) of-store _
       (λ e q. absurd (let z : _≡_ {A = ℕ} 0 1 = cc in omega arith))
-      λ d q. a d Idle last (a-folder (file-of x []) d t q))
+      λ d q. a d Idle last (a-folder x d number from t q))
       (λ t.
       a (p .first) (Announced x) last
-      (a-file x number
+      (a-file x number from t
       (record {
         positive = omega (arith, fits .next-positive);
         below-next = omega arith;
@@ -234,21 +297,34 @@ module _ (P : Outcome → Type 0) (p : Storages) (s : OpenSession) (c : Command)
         free-bytes = bytes;
       })))
 
-  pub info-law : (host : List ℕ) → P (info-sent p s c host)
+  pub info-law : P (info-sent p s c host)
   unfolding info-sent
-  info-law host =
+  info-law =
       settled-ways P (p .first) (Open s) _
       (checked P Q (eqb (parameter 1 c) 0 || is-storage (parameter 1 c)) InvalidStorage _ (r InvalidStorage no-storage) λ _.
       checked P Q (not (eqb (parameter 1 c) second-storage) && not (p .locked)) StoreReadOnly _ (r StoreReadOnly read-only) λ l.
       and-then-ways P Q (dataset-in c host) of-dataset _
-      (λ e q. dataset-fault Q c host e (r IncompleteTransfer incomplete) (r InvalidDataset bad-dataset) q) λ i _.
-      present-ways P Q (format-of (i .format)) InvalidFormat _ (r InvalidFormat bad-format) λ format _.
+      (λ e q. dataset-fault Q c host e (r IncompleteTransfer incomplete) (r InvalidDataset bad-dataset) q) λ i read.
+      present-ways P Q (format-of (i .format)) InvalidFormat _ (r InvalidFormat bad-format) λ format known.
       checked P Q (not (is-folder format) || eqb (i .size) 0) InvalidDataset _ (r InvalidDataset bad-dataset) λ z.
       checked P Q (is-parent (parent-number (parameter 2 c)) (p .first .files)) InvalidParent _ (r InvalidParent bad-parent) λ parent.
       checked P Q (leb (i .size) max-length) ObjectTooLarge _ (r ObjectTooLarge too-large) λ short.
       checked P Q (has-room (i .size) (p .first) && leb (s .next) last-number) StoreFull _ (r StoreFull full) λ room.
       let rooms = and-parts (has-room (i .size) (p .first)) (leb (s .next) last-number) room in
-      announced-ways _ refl (not-true (p .locked) (and-parts (not (eqb (parameter 1 c) second-storage)) (not (p .locked)) l .1))
+      let sent = dataset-read c host i read in
+      announced-ways _ refl
+      (record {
+        payload = sent .0;
+        info = i;
+        received = sent .1;
+        read = sent .2;
+        format-is = numbered format-number formats (i .format) format known;
+        protection-is = refl;
+        name-is = refl;
+        size-is = refl;
+        parent-is = root-or (parameter 2 c) 0;
+      })
+      (not-true (p .locked) (and-parts (not (eqb (parameter 1 c) second-storage)) (not (p .locked)) l .1))
       (folder-size format (i .size) z) parent (leb-true (i .size) max-length short) (rooms .0) (leb-true (s .next) last-number (rooms .1)))
     where
       folder-size : (format : Format) (size : ℕ) → (not (is-folder format) || eqb size 0) ≡ true → is-folder format ≡ true → size ≡ 0
@@ -272,11 +348,11 @@ received-size : (size : ℕ) (c : Command) (host xs : List ℕ) → payload-of-s
     → (payload-in (c .code) (c .transaction) host ≡ Some xs) × (length xs ≡ size)
 received-size size c host xs e = by (payload-in (c .code) (c .transaction) host) e
   where
-    last : (ys : List ℕ) (t : Bool) → eqb (length ys) size ≡ t → Rattle.store.specs.Checks.provided t datasets.IncompleteTransfer (Ok ys) ≡ Ok xs → (Some ys ≡ Some xs) × (length xs ≡ size)
+    last : (ys : List ℕ) (t : Bool) → eqb (length ys) size ≡ t → provided t datasets.IncompleteTransfer (Ok ys) ≡ Ok xs → (Some ys ≡ Some xs) × (length xs ≡ size)
     last ys true q e = let z : ys ≡ xs = cc in (ap Some z, subst (λ zs. length zs ≡ size) z (eqb-true (length ys) size q))
     last ys false q e = absurd (let z : _≡_ {A = ℕ} 0 1 = cc in omega arith)
 
-    by : (o : Option (List ℕ)) → Rattle.protocol.specs.Checks.present o datasets.IncompleteTransfer (λ ys. Rattle.store.specs.Checks.provided (eqb (length ys) size) datasets.IncompleteTransfer (Ok ys)) ≡ Ok xs
+    by : (o : Option (List ℕ)) → present o datasets.IncompleteTransfer (λ ys. provided (eqb (length ys) size) datasets.IncompleteTransfer (Ok ys)) ≡ Ok xs
         → (o ≡ Some xs) × (length xs ≡ size)
     by None e = absurd (let z : _≡_ {A = ℕ} 0 1 = cc in omega arith)
     by (Some ys) e = last ys (eqb (length ys) size) refl e

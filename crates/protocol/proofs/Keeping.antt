@@ -214,18 +214,18 @@ module _ (o : Storages) (sn : Seen) (p : Storages) (s : OpenSession) (c : Comman
 
   -- after a number was given
   true-given : (d : Contents) (t : Transfer) → Sound-storages (with-first p d) → Open-fits (with-first p d) (given-next (moved s) t) → s .next ≤ last-number
-      → Gives p (moved s) d t → True-to o (with-given sn (s .next)) (with-first p d) (given-next (moved s) t)
-  true-given _ _ k fits l (a-folder f d u e) = record {
+      → Gives p (moved s) c host d t → True-to o (with-given sn (s .next)) (with-first p d) (given-next (moved s) t)
+  true-given _ _ k fits l (a-folder a d _ _ u e) = record {
     sound = k;
     fits = fits;
-    files = files-folder p (sn .bindings) (s .next) f d u (changes-keep (p .locked) (adding (s .next) f) (p .first) d (i .sound .first-sound) e .1) (i .files);
+    files = files-folder p (sn .bindings) (s .next) (file-of a []) d u (changes-keep (p .locked) (adding (s .next) (file-of a [])) (p .first) d (i .sound .first-sound) e .1) (i .files);
     bindings-apart = apart-more (s .next) (suc (s .next)) (sn .bindings) (omega arith) (i .bindings-apart);
     opening-apart = apart-more (s .next) (suc (s .next)) (bound-at-opening o) (omega arith) (i .opening-apart);
     given-below = (omega arith, below-more (s .next) (suc (s .next)) (sn .given) (omega arith) (i .given-below));
     once = i .once;
     awaits = tt;
   }
-  true-given _ _ k fits l (a-file a n w) = record {
+  true-given _ _ k fits l (a-file a n _ _ w) = record {
     sound = k;
     fits = fits;
     files = i .files;
@@ -287,7 +287,7 @@ went-good o sn p s c host _ i l (steps.deletes _ e d q) ne = (
       (record {
         sound = l .sound;
         fits = l .fits;
-        files = files-removed p (sn .bindings) (parameter 1 c) d (changes-keep (p .locked) (removing (parameter 1 c)) (p .first) d (i .sound .first-sound) q .1) (i .files);
+        files = files-removed p (sn .bindings) (parameter 1 c) d (changes-keep (p .locked) (removing (parameter 1 c)) (p .first) d (i .sound .first-sound) (q .change) .1) (i .files);
         bindings-apart = i .bindings-apart;
         opening-apart = i .opening-apart;
         given-below = i .given-below;

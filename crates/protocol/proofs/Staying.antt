@@ -28,11 +28,11 @@ use Rattle.protocol.specs.declared.session.Transfer.{Transfer}
 use Rattle.protocol.specs.declared.session.Transfer.the-variants.{Idle, Announced}
 use Rattle.protocol.specs.Commands.{parameter}
 use Rattle.protocol.specs.Storages.{Storages, Sound-storages}
-use Rattle.protocol.specs.Acting.{given-next, at-rest}
+use Rattle.protocol.specs.Acting.{given-next, at-rest, file-of}
 use Rattle.protocol.specs.Invariant.{Stands, Transfer-fits, Open-fits, Session-fits, State-fits, Sessions-fit}
 use Rattle.protocol.specs.Machine.{State, Answer, Call, answer, cancel, unplug, moved, with-first, next-state, state-after, fresh, answered, cancelled, unplugged}
 use Rattle.protocol.specs.Staying.{Kept, Stores-kept, One-number, One-at-a-time}
-use Rattle.protocol.proofs.Effects.{opened, Gives, a-folder, a-file, Brings}
+use Rattle.protocol.proofs.Effects.{opened, Deletes, Gives, a-folder, a-file, Brings}
 use Rattle.protocol.proofs.Steps as steps
 use Rattle.protocol.proofs.Steps.{Stopped, held, untimely, unknown, Went, Went-closed, Spared, fits-moved, open-went, closed-went, cancel-went}
 
@@ -123,20 +123,20 @@ module _ (p : Storages) (s : OpenSession) (n : ℕ) (d : Contents) (k : Sound-st
   })
 
 -- after a number is given
-gives-leads : (p : Storages) (s : OpenSession) (d : Contents) (t : Transfer) → Sound-storages p → Open-fits p s → s .next ≤ last-number → Gives p s d t
+gives-leads : (p : Storages) (s : OpenSession) (c : Command) (host : List ℕ) (d : Contents) (t : Transfer) → Sound-storages p → Open-fits p s → s .next ≤ last-number → Gives p s c host d t
     → Leads p (record { storages = with-first p d; session = Open (given-next s t) })
-gives-leads p s _ _ k fits l (a-folder f d u e) =
-    let r = changes-keep (p .locked) (adding (s .next) f) (p .first) d (k .first-sound) e in
-    changes p d (Open (given-next s Idle)) (s .next) (Some f) k (r .0) (r .1) (record {
+gives-leads p s c host _ _ k fits l (a-folder a d _ _ u e) =
+    let r = changes-keep (p .locked) (adding (s .next) (file-of a [])) (p .first) d (k .first-sound) e in
+    changes p d (Open (given-next s Idle)) (s .next) (Some (file-of a [])) k (r .0) (r .1) (record {
       id-positive = fits .id-positive;
       expected-positive = fits .expected-positive;
       expected-bound = fits .expected-bound;
       next-positive = omega arith;
       next-bound = omega arith;
-      next-above = below-differs (s .next) (s .next) f (p .first) d (r .1) (fits .next-above) (suc (s .next)) (omega arith) (omega arith);
+      next-above = below-differs (s .next) (s .next) (file-of a []) (p .first) d (r .1) (fits .next-above) (suc (s .next)) (omega arith) (omega arith);
       transfer-fits = tt;
     })
-gives-leads p s _ _ k fits l (a-file a n f) = still p (Open (given-next s (Announced a))) k (record {
+gives-leads p s c host _ _ k fits l (a-file a _ _ _ f) = still p (Open (given-next s (Announced a))) k (record {
   id-positive = fits .id-positive;
   expected-positive = fits .expected-positive;
   expected-bound = fits .expected-bound;
@@ -177,8 +177,8 @@ went-leads p s c host _ k fits (steps.refuses f _ _ _ _) = still p (Open (moved 
 went-leads p s c host _ k fits (steps.ends f _ _ _ _) = still p (Open (at-rest (moved s))) k (fits-rest p (moved s) (fits-moved p s fits))
 went-leads p s c host _ k fits (steps.tells x _ _) = still p (Open (moved s)) k (fits-moved p s fits)
 went-leads p s c host _ k fits (steps.closes _ _) = still p Closed k tt
-went-leads p s c host _ k fits (steps.deletes _ _ d e) = removed-leads p (moved s) (parameter 1 c) d k (fits-moved p s fits) e
-went-leads p s c host _ k fits (steps.gives _ _ d t l g) = gives-leads p (moved s) d t k (fits-moved p s fits) l g
+went-leads p s c host _ k fits (steps.deletes _ _ d e) = removed-leads p (moved s) (parameter 1 c) d k (fits-moved p s fits) (e .change)
+went-leads p s c host _ k fits (steps.gives _ _ d t l g) = gives-leads p (moved s) c host d t k (fits-moved p s fits) l g
 went-leads p s c host _ k fits (steps.brings _ _ d b) = brings-leads p (moved s) c host d k (fits-moved p s fits) b
 
 -- a session that opens

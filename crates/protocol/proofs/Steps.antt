@@ -16,7 +16,6 @@ use Rattle.std.proofs.shelf.Tests.{eqb-true, eqb-false, or-cases, cond-both}
 use Rattle.bytes.proofs.Cutting.{none-some, some-same}
 use Rattle.object.specs.Formats.{is-folder}
 use Rattle.store.specs.Contents.{File, Contents}
-use Rattle.store.specs.Changes.{removed}
 use Rattle.store.specs.Sound.{last-number}
 use Rattle.store.proofs.Checks.{Either-way, checked}
 use Rattle.wire.specs.declared.command.Command.{Command}
@@ -37,7 +36,7 @@ use Rattle.protocol.specs.Acting.{Outcome, session-opened, given-next, at-rest
 use Rattle.protocol.specs.Invariant.{Open-fits}
 use Rattle.protocol.specs.Machine.{State, Reply, Answer, Task, looks, acts, Row, tasks, task-in, task-of, moved, Gate, stops, passes-closed, passes-open, known-open, known-closed, for-closed, gate, has-surplus, refused, data-of, looked, acted, performed, performed-closed, served, spared, answered, cancelled}
 use Rattle.protocol.proofs.Ways.{present-ways, cond-ways, apart}
-use Rattle.protocol.proofs.Effects.{acceptance, refusal, opened, Plain, Later, Info-fault, info-plain, handles-told, Gives, Brings, open-law, close-law, delete-law, info-law, send-law}
+use Rattle.protocol.proofs.Effects.{acceptance, refusal, opened, Plain, Later, Info-fault, info-plain, handles-told, Deletes, Gives, Brings, open-law, close-law, delete-law, info-law, send-law}
 
 -- a command that an open session lets through
 pub record Timely (s : OpenSession) (c : Command) : Type 0 where
@@ -78,9 +77,9 @@ pub data Went (p : Storages) (s : OpenSession) (c : Command) (host : List ℕ) :
   ends : (f : OperationFault) → Timely s c → c .code ≡ send-object → Plain f → Later f → Went p s c host (refused f p (Open (at-rest (moved s))) c)
   tells : (x : Shown) → Timely s c → Told p c x → Went p s c host (telling x p (Open (moved s)) c)
   closes : Timely s c → c .code ≡ close-session → Went p s c host (acted p c (acceptance [] (p .first) Closed))
-  deletes : Timely s c → c .code ≡ delete-object → (d : Contents) → removed (p .locked) (parameter 1 c) (p .first) ≡ Ok d
+  deletes : Timely s c → c .code ≡ delete-object → (d : Contents) → Deletes p (parameter 1 c) d
       → Went p s c host (acted p c (acceptance [] d (Open (moved s))))
-  gives : Timely s c → c .code ≡ send-object-info → (d : Contents) (t : Transfer) → s .next ≤ last-number → Gives p (moved s) d t
+  gives : Timely s c → c .code ≡ send-object-info → (d : Contents) (t : Transfer) → s .next ≤ last-number → Gives p (moved s) c host d t
       → Went p s c host (acted p c (acceptance (handles-told (moved s) c) d (Open (given-next (moved s) t))))
   brings : Timely s c → c .code ≡ send-object → (d : Contents) → Brings p (moved s) c host d
       → Went p s c host (acted p c (acceptance [] d (Open (at-rest (moved s)))))
@@ -214,9 +213,9 @@ module _ (p : Storages) (s : OpenSession) (c : Command) (host : List ℕ) (room 
 
   info-went : Open-fits p (moved s) → c .code ≡ send-object-info → Performs (Some (acts (λ p s c host. Rattle.protocol.specs.Acting.info-sent p s c host)))
   info-went fits e _ =
-      info-law Acts p (moved s) c fits
+      info-law Acts p (moved s) c host fits
       (λ f h. refuses f timely (info-plain f h) (λ g. apart send-object-info send-object e g refl) (λ _. inr h))
-      (λ d t l g. gives timely e d t l g) host
+      (λ d t l g. gives timely e d t l g)
 
   send-went : c .code ≡ send-object → Performs (Some (acts (λ p s c host. Rattle.protocol.specs.Acting.object-sent p s c host)))
   send-went e _ =

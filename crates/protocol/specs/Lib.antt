@@ -1,3 +1,4 @@
+pub mod Accepted
 pub mod Acting
 pub mod Alike
 pub mod Checks
