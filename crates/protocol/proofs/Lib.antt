@@ -1,3 +1,4 @@
+pub mod Accepted
 pub mod Alike
 pub mod Bindings
 pub mod Effects
@@ -12,4 +13,5 @@ pub mod Responses
 pub mod Sampled
 pub mod Staying
 pub mod Steps
+pub mod Walking
 pub mod Ways

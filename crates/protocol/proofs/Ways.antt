@@ -10,12 +10,18 @@ use Rattle.std.specs.declared.result.Result.the-variants.{Ok, Err}
 use Rattle.std.proofs.shelf.Tests.{eqb-false}
 use lib.Dec.{eqb}
 use Rattle.store.specs.Contents.{Contents}
+use Rattle.store.specs.Faults.{store-fault-number}
+use Rattle.store.specs.declared.fault.StoreFault.{StoreFault}
+use Rattle.store.specs.declared.fault.StoreFault.the-variants as of-stores
+use Rattle.wire.specs.Faults.{dataset-fault-number}
+use Rattle.wire.specs.declared.fault.DatasetFault.{DatasetFault}
+use Rattle.wire.specs.declared.fault.DatasetFault.the-variants as of-datasets
 use Rattle.store.proofs.Checks.{Either-way}
 use Rattle.protocol.specs.declared.fault.OperationFault.{OperationFault}
 use Rattle.protocol.specs.declared.fault.OperationFault.the-variants.{GeneralError, SessionNotOpen, InvalidTransaction, OperationNotSupported, ParameterNotSupported, IncompleteTransfer, InvalidStorage, InvalidHandle, InvalidFormat, StoreFull, ObjectProtected, StoreReadOnly, AccessDenied, FormatNotSupported, NoObjectInfo, InvalidParent, InvalidParameter, SessionAlreadyOpen, TransactionCancelled, InvalidDataset, ObjectTooLarge}
 use Rattle.protocol.specs.declared.session.Session.{Session}
 use Rattle.protocol.specs.Checks.{present, and-then}
-use Rattle.protocol.specs.Faults.{ok, operation-fault-number}
+use Rattle.protocol.specs.Faults.{ok, operation-fault-number, of-store, of-dataset, Numbers-carried}
 use Rattle.protocol.specs.Acting.{Outcome, settled}
 
 pub present-ways :
@@ -70,3 +76,20 @@ fault-not-ok ObjectTooLarge e = omega arith
 -- a number is not two numbers
 pub apart : {A : Type 0} {n : ℕ} (k l : ℕ) → n ≡ k → n ≡ l → eqb k l ≡ false → A
 apart k l e f h = absurd (eqb-false k l h (cc))
+
+pub numbers-carried : Numbers-carried
+numbers-carried = record { stores = by-store; datasets = by-dataset }
+  where
+    by-store : (f : StoreFault) → operation-fault-number (of-store f) ≡ store-fault-number f
+    by-store of-stores.ReadOnly = refl
+    by-store of-stores.InvalidDataset = refl
+    by-store of-stores.NumberTaken = refl
+    by-store of-stores.InvalidParent = refl
+    by-store of-stores.Full = refl
+    by-store of-stores.Absent = refl
+    by-store of-stores.HasChildren = refl
+
+    by-dataset : (f : DatasetFault) → operation-fault-number (of-dataset f) ≡ dataset-fault-number f
+    by-dataset of-datasets.IncompleteTransfer = refl
+    by-dataset of-datasets.InvalidDataset = refl
+    by-dataset of-datasets.BufferTooShort = refl

@@ -1,10 +1,13 @@
 -- The numbers of refusals, and the one parameter that a refusal can have.
+use mathlib.Core.Path.{_≡_}
 use mathlib.Core.List.{List, [], _∷_}
 use Prim.Native.Nat.{ℕ}
+use Rattle.store.specs.Faults.{store-fault-number}
 use Rattle.store.specs.declared.fault.StoreFault.{StoreFault}
-use Rattle.store.specs.declared.fault.StoreFault.the-variants as stores
+use Rattle.store.specs.declared.fault.StoreFault.the-variants as of-stores
+use Rattle.wire.specs.Faults.{dataset-fault-number}
 use Rattle.wire.specs.declared.fault.DatasetFault.{DatasetFault}
-use Rattle.wire.specs.declared.fault.DatasetFault.the-variants as datasets
+use Rattle.wire.specs.declared.fault.DatasetFault.the-variants as of-datasets
 use Rattle.protocol.specs.declared.fault.OperationFault.{OperationFault}
 use Rattle.protocol.specs.declared.fault.OperationFault.the-variants.{GeneralError, SessionNotOpen, InvalidTransaction, OperationNotSupported, ParameterNotSupported, IncompleteTransfer, InvalidStorage, InvalidHandle, InvalidFormat, StoreFull, ObjectProtected, StoreReadOnly, AccessDenied, FormatNotSupported, NoObjectInfo, InvalidParent, InvalidParameter, SessionAlreadyOpen, TransactionCancelled, InvalidDataset, ObjectTooLarge}
 
@@ -61,15 +64,20 @@ parameters-of ObjectTooLarge = []
 
 -- a store's or a dataset's fault as an operation's, with the same number
 abbrev pub of-store : StoreFault → OperationFault
-of-store stores.ReadOnly = StoreReadOnly
-of-store stores.InvalidDataset = InvalidDataset
-of-store stores.NumberTaken = InvalidParameter
-of-store stores.InvalidParent = InvalidParent
-of-store stores.Full = StoreFull
-of-store stores.Absent = InvalidHandle
-of-store stores.HasChildren = AccessDenied
+of-store of-stores.ReadOnly = StoreReadOnly
+of-store of-stores.InvalidDataset = InvalidDataset
+of-store of-stores.NumberTaken = InvalidParameter
+of-store of-stores.InvalidParent = InvalidParent
+of-store of-stores.Full = StoreFull
+of-store of-stores.Absent = InvalidHandle
+of-store of-stores.HasChildren = AccessDenied
 
 abbrev pub of-dataset : DatasetFault → OperationFault
-of-dataset datasets.IncompleteTransfer = IncompleteTransfer
-of-dataset datasets.InvalidDataset = InvalidDataset
-of-dataset datasets.BufferTooShort = GeneralError
+of-dataset of-datasets.IncompleteTransfer = IncompleteTransfer
+of-dataset of-datasets.InvalidDataset = InvalidDataset
+of-dataset of-datasets.BufferTooShort = GeneralError
+
+-- a fault is carried up with its number unaltered
+pub record Numbers-carried : Type 0 where
+  pub stores : (f : StoreFault) → operation-fault-number (of-store f) ≡ store-fault-number f
+  pub datasets : (f : DatasetFault) → operation-fault-number (of-dataset f) ≡ dataset-fault-number f

@@ -1,9 +1,15 @@
 -- Listings: which handles an accepted GetObjectHandles sends.
 use mathlib.Core.Path.{_≡_}
 use mathlib.Core.Logic.{_⊎_}
-use mathlib.Core.List.{List, [], _∷_}
-use Prim.Native.Nat.{ℕ, _<_}
-use Rattle.store.specs.Contents.{File}
+use mathlib.Core.Bool.{Bool, false}
+use mathlib.Core.List.{List, [], _∷_, map}
+use Prim.Native.Nat.{ℕ, _+_, _<_}
+use Rattle.std.specs.declared.option.Option.{Option}
+use Rattle.std.specs.declared.option.Option.the-variants.{Some, None}
+use Rattle.std.specs.shelf.Lists.{kept-by}
+use Rattle.store.specs.Contents.{File, Contents, lookup}
+use Rattle.store.specs.Sound.{Sound}
+use Rattle.store.specs.Laws.{Walk}
 use Rattle.wire.specs.declared.command.Command.{Command}
 use Rattle.wire.specs.Containers.{data-container}
 use Rattle.wire.specs.Operations.{get-object-handles}
@@ -11,6 +17,7 @@ use Rattle.wire.specs.Strings.{array}
 use Rattle.protocol.specs.Faults.{ok}
 use Rattle.protocol.specs.Commands.{parameter}
 use Rattle.protocol.specs.Storages.{Storages, Sound-storages}
+use Rattle.protocol.specs.Looking.{handles-on}
 use Rattle.protocol.specs.Objects.{Handle, Object, In}
 use Rattle.protocol.specs.Machine.{Reply, Call, answered, state-after, fresh}
 
@@ -46,3 +53,14 @@ Listings-right =
     (p : Storages) → Sound-storages p → (calls : List Call) (c : Command) (host : List ℕ) (room : ℕ) → c .code ≡ get-object-handles
     → answered (state-after (fresh p) calls) c host room .reply .code ≡ ok
     → Listed (state-after (fresh p) calls .storages) c (answered (state-after (fresh p) calls) c host room .reply)
+
+-- a file that is there passes a test
+abbrev pub passes : (File → Bool) → Option File → Bool
+passes test None = false
+passes test (Some f) = test f
+
+-- a walk by the next-file question, of which the numbers are kept whose file passes, gives the handles of a store's listing
+abbrev pub Listings-walked : Type 0
+Listings-walked =
+    (c : Contents) → Sound c → (base : ℕ) (test : File → Bool) (ns : List ℕ) → Walk (c .files) 0 ns
+    → handles-on base test (c .files) ≡ map (λ n. base + n) (kept-by (λ n. passes test (lookup n (c .files))) ns)
