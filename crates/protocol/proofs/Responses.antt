@@ -11,15 +11,15 @@ use lib.ListN.{length, take, drop, getD}
 use Rattle.std.specs.declared.option.Option.{Option}
 use Rattle.std.specs.declared.option.Option.the-variants.{Some, None}
 use Rattle.std.specs.shelf.Lists.{All}
-use Rattle.std.proofs.shelf.Elements.{all-getD}
-use Rattle.std.proofs.shelf.Lists.{length-take, length-drop}
-use Rattle.std.proofs.shelf.Tests.{and-from, le-leb, eq-eqb, cond-true, cases-eq}
-use Rattle.bytes.specs.Numbers.{le, value}
-use Rattle.bytes.proofs.LittleEndian.{value-le}
-use Rattle.bytes.proofs.Cutting.{some-same}
+use Rattle.std.proofs.shelf.Elements.{all-getD, all-take, all-drop}
+use Rattle.std.proofs.shelf.Lists.{length-take, length-drop, length-take-le, take-append-drop, drop-drop, nil-from-length}
+use Rattle.std.proofs.shelf.Tests.{and-from, and-parts, leb-true, le-leb, eqb-true, eq-eqb, cond-true, cases-eq}
+use Rattle.bytes.specs.Numbers.{Bytes, le, value}
+use Rattle.bytes.proofs.LittleEndian.{value-le, le-value}
+use Rattle.bytes.proofs.Cutting.{some-same, through}
 use Rattle.store.specs.Contents.{File}
 use Rattle.wire.specs.declared.command.Command.{Command}
-use Rattle.wire.specs.Containers.{numbers, container, number-at, is-container, response-type}
+use Rattle.wire.specs.Containers.{numbers, container, number-at, is-container, response-type, response}
 use Rattle.wire.specs.Operations.{get-partial-object}
 use Rattle.protocol.specs.declared.fault.OperationFault.{OperationFault}
 use Rattle.protocol.specs.declared.fault.OperationFault.the-variants.{GeneralError, SessionNotOpen, InvalidTransaction, OperationNotSupported, ParameterNotSupported, IncompleteTransfer, InvalidStorage, InvalidHandle, InvalidFormat, StoreFull, ObjectProtected, StoreReadOnly, AccessDenied, FormatNotSupported, NoObjectInfo, InvalidParent, InvalidParameter, SessionAlreadyOpen, TransactionCancelled, InvalidDataset, ObjectTooLarge}
@@ -69,6 +69,49 @@ read-back r f =
       transaction = value-le 4 (r .transaction) (f .transaction-fits) i;
       parameters = (ap (λ k. numbers-in k (numbers 4 (r .parameters))) n ∙ numbers-back (r .parameters) (f .parameters-fit)) i;
     })
+
+-- a part of bytes is the bytes of its number
+part-bytes : (k i : ℕ) (bs : List ℕ) → Bytes bs → i + k ≤ length bs → le k (number-at k i bs) ≡ take k (drop i bs)
+part-bytes k i bs h l =
+    let d = length-drop i bs in
+    let m : length (take k (drop i bs)) ≡ k = length-take-le k (drop i bs) (omega arith) in
+    subst (λ n. le n (number-at k i bs) ≡ take k (drop i bs)) m (le-value (take k (drop i bs)) (all-take (λ b. b < 256) k (drop i bs) (all-drop (λ b. b < 256) i bs h)))
+
+part-rest : (k i : ℕ) (bs : List ℕ) → drop i bs ≡ take k (drop i bs) ++ drop (i + k) bs
+part-rest k i bs = sym (take-append-drop k (drop i bs)) ∙ ap (λ l. take k (drop i bs) ++ l) (drop-drop k i bs)
+
+numbers-pinned : (n : ℕ) (bs : List ℕ) → Bytes bs → length bs ≡ 4 * n → numbers 4 (numbers-in n bs) ≡ bs
+numbers-pinned zero bs h l = sym (nil-from-length bs l)
+numbers-pinned (suc n) bs h l =
+    let e = part-bytes 4 0 bs h (omega arith) in
+    let d = length-drop 4 bs in
+    let r = numbers-pinned n (drop 4 bs) (all-drop (λ b. b < 256) 4 bs h) (omega arith) in
+    (λ i. e i ++ r i) ∙ sym (part-rest 4 0 bs)
+
+-- what the reader takes for a response is one
+pinned : (bs : List ℕ) (x : Response) → Bytes bs → response-in bs ≡ Some x → bs ≡ response (x .code) (x .transaction) (x .parameters)
+unfolding response-in container
+pinned bs x h e =
+    let t = through _ _ x e in
+    let a = and-parts (is-container response-type bs) _ (t .0) in
+    let b = and-parts (leb 12 (length bs)) _ (a .0) in
+    let c = and-parts (eqb (number-at 4 0 bs) (length bs)) _ (b .1) in
+    let d = and-parts (leb (length bs) 32) _ (a .1) in
+    let long = leb-true 12 (length bs) (b .0) in
+    let whole = eqb-true (number-at 4 0 bs) (length bs) (c .0) in
+    let kind = eqb-true (number-at 2 4 bs) 3 (c .1) in
+    let fours = eqb-true (length bs % 4) 0 (d .1) in
+    let rest = length-drop 12 bs in
+    let n : ℕ = (length bs - 12) / 4 in
+    let ps : List ℕ = numbers-in n (drop 12 bs) in
+    let back : numbers 4 ps ≡ drop 12 bs = numbers-pinned n (drop 12 bs) (all-drop (λ y. y < 256) 12 bs h) (omega arith) in
+    let size : 12 + length (numbers 4 ps) ≡ number-at 4 0 bs = ap (λ l. 12 + length l) back ∙ omega arith in
+    let split : bs ≡ take 4 bs ++ (take 2 (drop 4 bs) ++ (take 2 (drop 6 bs) ++ (take 4 (drop 8 bs) ++ drop 12 bs))) =
+    part-rest 4 0 bs ∙ ap (λ l. take 4 bs ++ l) (part-rest 2 4 bs ∙ ap (λ l. take 2 (drop 4 bs) ++ l) (part-rest 2 6 bs ∙ ap (λ l. take 2 (drop 6 bs) ++ l) (part-rest 4 8 bs))) in
+    split
+    ∙ (λ i. (sym (part-bytes 4 0 bs h (omega arith)) ∙ ap (le 4) (sym size)) i ++ ((sym (part-bytes 2 4 bs h (omega arith)) ∙ ap (le 2) kind) i
+    ++ (sym (part-bytes 2 6 bs h (omega arith)) i ++ (sym (part-bytes 4 8 bs h (omega arith)) i ++ sym back i))))
+    ∙ ap (λ (y : Response). response (y .code) (y .transaction) (y .parameters)) (t .1)
 
 same-reply : (r q : Reply) → Reply-fits r → Reply-fits q → response-of r ≡ response-of q → r .sent ≡ q .sent → r ≡ q
 same-reply r q f g e d =
@@ -204,4 +247,4 @@ all-fit b (x ∷ xs) k f i r =
     replies-first b x (history (next-state b x) xs) (g .0) (all-fit (next-state b x) xs (l .sound) (l .fits) (g .1) (r .1))
 
 pub responses-tell-replies : Responses-tell-replies
-responses-tell-replies = record { read = read-back; fit = λ p k calls r. all-fit (fresh p) calls k tt tt r; same = same-reply }
+responses-tell-replies = record { read = read-back; pinned = pinned; fit = λ p k calls r. all-fit (fresh p) calls k tt tt r; same = same-reply }

@@ -23,7 +23,7 @@ use Rattle.protocol.specs.Storages.{object-at}
 use Rattle.protocol.specs.Looking.{storage-shown, handles-shown, info-shown, object-shown, part-shown}
 use Rattle.protocol.specs.Acting.{session-opened, session-closed, object-deleted, info-sent, object-sent}
 use Rattle.protocol.specs.Machine.{task-of, answered, cancelled, unplugged}
-use Rattle.protocol.specs.Samples.{Exchanged, Written-out, Samples-sound, name-a, name-beds, programs, handbook, two-five, empty}
+use Rattle.protocol.specs.Samples.{Exchanged, Written-out, Every-operation, Samples-sound, one-file, name-a, name-beds, programs, handbook, two-five, empty}
 
 pub exchanged : Exchanged
 unfolding legal-name stored-name named added removed container payload-in device-info object-info object-info-in operation-of storage-info array object-at storage-shown handles-shown info-shown object-shown part-shown session-opened session-closed object-deleted info-sent object-sent task-of answered cancelled unplugged name-a name-beds
@@ -93,6 +93,23 @@ two-five-sound = record {
   parents-below = each-from (λ n f. f .parent < n) (two-five .files) (lit< tt, (lit< tt, tt));
 }
 
+one-file-sound : Sound one-file
+one-file-sound = record {
+  capacity-bound = lit≤ tt;
+  limit-bound = lit≤ tt;
+  total-fits = lit≤ tt;
+  count-fits = lit≤ tt;
+  ascending = (lit< tt, tt);
+  numbers = each-from (λ n f. n ≤ last-number) (one-file .files) (lit≤ tt, tt);
+  lengths = each-from (λ n f. length (f .bytes) ≤ max-length) (one-file .files) (lit≤ tt, tt);
+  folders-empty = each-from (λ n f. is-folder (f .format) ≡ true → length (f .bytes) ≡ 0) (one-file .files) (no-folder, tt);
+  parents = each-from (λ n f. is-parent (f .parent) (one-file .files) ≡ true) (one-file .files) (refl, tt);
+  parents-below = each-from (λ n f. f .parent < n) (one-file .files) (lit< tt, tt);
+}
+
+pub every-operation : Every-operation
+every-operation = refl
+
 pub samples-sound : Samples-sound
 samples-sound = record {
   programs-sound = record { first-sound = programs-sound; second-sound = handbook-sound };
@@ -100,4 +117,5 @@ samples-sound = record {
   two-five-sound = record { first-sound = two-five-sound; second-sound = handbook-sound };
   just-room-sound = record { first-sound = empty-sound 32768 1 (lit≤ tt) (lit≤ tt); second-sound = handbook-sound };
   no-room-sound = record { first-sound = empty-sound 32767 1 (lit≤ tt) (lit≤ tt); second-sound = handbook-sound };
+  image-sound = record { first-sound = empty-sound 0 1 (lit≤ tt) (lit≤ tt); second-sound = one-file-sound };
 }

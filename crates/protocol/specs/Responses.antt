@@ -8,7 +8,8 @@ use lib.ListN.{length, drop}
 use Rattle.std.specs.declared.option.Option.{Option}
 use Rattle.std.specs.declared.option.Option.the-variants.{Some, None}
 use Rattle.std.specs.shelf.Lists.{All}
-use Rattle.wire.specs.Containers.{number-at, is-container, response-type}
+use Rattle.bytes.specs.Numbers.{Bytes}
+use Rattle.wire.specs.Containers.{number-at, is-container, response-type, response}
 use Rattle.protocol.specs.Storages.{Storages, Sound-storages}
 use Rattle.protocol.specs.Machine.{Reply, Call, response-of, replies, fresh}
 use Rattle.protocol.specs.Alike.{Real}
@@ -44,6 +45,8 @@ pub record Reply-fits (r : Reply) : Type 0 where
 pub record Responses-tell-replies : Type 0 where
   -- a response is read back
   pub read : (r : Reply) → Reply-fits r → response-in (response-of r) ≡ Some (held-in r)
+  -- and nothing else is taken for a response
+  pub pinned : (bs : List ℕ) (x : Response) → Bytes bs → response-in bs ≡ Some x → bs ≡ response (x .code) (x .transaction) (x .parameters)
   -- every reply to calls that a host can make fits
   pub fit : (p : Storages) → Sound-storages p → (calls : List Call) → Real calls → All Reply-fits (replies (fresh p) calls)
   -- so replies with the same bytes are the same

@@ -1,12 +1,14 @@
 -- Sample exchanges and sample bytes, shown from the definitions at a stroke.
 use mathlib.Core.Path.{_≡_, refl}
-use mathlib.Core.Bool.{Bool, true, false}
+use mathlib.Core.Bool.{Bool, true, false, not}
 use mathlib.Core.List.{List, [], _∷_, _++_, map}
 use Prim.Native.Nat.{ℕ, _+_, _<_}
+use lib.Dec.{eqb}
 use lib.ListN.{replicate, take}
 use Rattle.std.specs.declared.option.Option.{Option}
 use Rattle.std.specs.declared.option.Option.the-variants.{Some, None}
 use Rattle.std.specs.Options.{isSome}
+use Rattle.std.specs.shelf.Lists.{kept-by}
 use Rattle.bytes.specs.Numbers.{le}
 use Rattle.object.specs.Legal.{legal-name, stored-name}
 use Rattle.object.specs.Names.{named}
@@ -19,13 +21,13 @@ use Rattle.store.specs.Contents.{File, Entry, Contents}
 use Rattle.wire.specs.declared.command.Command.{Command}
 use Rattle.wire.specs.Containers.{container, command-type, data-type, response}
 use Rattle.wire.specs.DeviceInfos.{device-info}
-use Rattle.wire.specs.Operations.{get-device-info, open-session, close-session, get-storage-ids, get-storage-info, get-object-handles, get-object-info, get-object, delete-object, send-object-info, send-object, get-partial-object}
+use Rattle.wire.specs.Operations.{get-device-info, open-session, close-session, get-storage-ids, get-storage-info, get-object-handles, get-object-info, get-object, delete-object, send-object-info, send-object, get-partial-object, operation-codes}
 use Rattle.wire.specs.Strings.{string}
 use Rattle.protocol.specs.declared.session.Session.{Session}
 use Rattle.protocol.specs.declared.session.Session.the-variants.{Closed, Open}
 use Rattle.protocol.specs.declared.session.Transfer.the-variants.{Idle}
 use Rattle.protocol.specs.Storages.{Storages, Sound-storages}
-use Rattle.protocol.specs.Machine.{State, Reply, Call, answer, cancel, unplug, replies, fresh}
+use Rattle.protocol.specs.Machine.{State, Reply, Call, answer, cancel, unplug, replies, fresh, Row, tasks}
 
 -- the value that is there
 abbrev pub the : {A : Type 0} (o : Option A) → isSome o ≡ true → A
@@ -253,9 +255,22 @@ wrap =
     (ask get-object 0xFFFFFFFE (6 ∷ []) ∷ ask get-object 0xFFFFFFFF (6 ∷ []) ∷ ask get-object 1 (6 ∷ []) ∷ [])
     (sent 0x1009 0xFFFFFFFE [] (7 ∷ []) ∷ refusal 0x2004 0xFFFFFFFF ∷ sent 0x1009 1 [] (7 ∷ []) ∷ [])
 
+-- the one-file image: file 3, "A", two bytes
+abbrev pub one-file : Contents
+one-file = record { capacity = 2; limit = 1; files = filed 3 Text ReadOnly 0 name-a (0x68 ∷ 0x69 ∷ []) ∷ [] }
+
+abbrev pub over-image : Storages
+over-image = record { first = empty 0 1; locked = false; second = one-file }
+
+abbrev pub image-read : Exchange
+image-read =
+    exchange (fresh over-image)
+    (ask open-session 0 (1 ∷ []) ∷ ask get-object 1 (0x80000003 ∷ []) ∷ ask get-object-handles 2 (0x00020001 ∷ []) ∷ ask get-object 3 (3 ∷ []) ∷ [])
+    (done 0 [] ∷ sent 0x1009 1 [] (0x68 ∷ 0x69 ∷ []) ∷ sent 0x1007 2 [] (1 ∷ 0 ∷ 0 ∷ 0 ∷ 3 ∷ 0 ∷ 0 ∷ 0x80 ∷ []) ∷ refusal 0x2009 3 ∷ [])
+
 abbrev pub exchanges : List Exchange
 exchanges =
-    looking-around ∷ listing ∷ partial-reads ∷ numbering ∷ just-room ∷ no-room ∷ steps ∷ refusing ∷ under-lock ∷ wrap ∷ []
+    looking-around ∷ listing ∷ partial-reads ∷ numbering ∷ just-room ∷ no-room ∷ steps ∷ refusing ∷ under-lock ∷ wrap ∷ image-read ∷ []
 
 abbrev pub Exchanged : Type 0
 Exchanged = map (λ (x : Exchange). replies (x .start) (x .calls)) exchanges ≡ map (λ (x : Exchange). x .expected) exchanges
@@ -273,6 +288,10 @@ byte-samples =
 abbrev pub Written-out : Type 0
 Written-out = map (λ (x : List ℕ × List ℕ). x .0) byte-samples ≡ map (λ (x : List ℕ × List ℕ). x .1) byte-samples
 
+-- each operation of the table has its task, but for OpenSession, which an open session refuses
+abbrev pub Every-operation : Type 0
+Every-operation = map (λ (r : Row). r .code) tasks ≡ kept-by (λ code. not (eqb code open-session)) operation-codes
+
 -- the storages of the samples are sound
 pub record Samples-sound : Type 0 where
   pub programs-sound : Sound-storages (over programs)
@@ -280,3 +299,4 @@ pub record Samples-sound : Type 0 where
   pub two-five-sound : Sound-storages (over two-five)
   pub just-room-sound : Sound-storages (over (empty 32768 1))
   pub no-room-sound : Sound-storages (over (empty 32767 1))
+  pub image-sound : Sound-storages over-image

@@ -1,8 +1,10 @@
 //! The laws over every list of calls, as contracts: a caller that needs a law calls the function that bears it.
+ghost use Rattle.protocol.specs.Accepted.{Accepted-do};
 ghost use Rattle.protocol.specs.Alike.{Replies-tell-contents};
+ghost use Rattle.protocol.specs.Faults.{Numbers-carried};
 ghost use Rattle.protocol.specs.Invariant.{Sessions-fit};
 ghost use Rattle.protocol.specs.Keeping.{Handles-keep-bytes};
-ghost use Rattle.protocol.specs.Listing.{Listings-right};
+ghost use Rattle.protocol.specs.Listing.{Listings-right, Listings-walked};
 ghost use Rattle.protocol.specs.ReadBack.{Infos-read-back};
 ghost use Rattle.protocol.specs.Refusals.{Refusals-leave, Same-transaction, Infos-answered};
 ghost use Rattle.protocol.specs.Responses.{Responses-tell-replies};
@@ -40,18 +42,22 @@ pub fn infos_read_back() -> u8
 }
 
 /// A refusal sends nothing and changes no store, and of the session only what is said; a cancel changes no store and never opens,
-/// closes or announces; the expected transaction moves with each command that has it; SendObjectInfo answers its own numbers only.
+/// closes or announces; the expected transaction moves with each command that has it; SendObjectInfo answers its own numbers only;
+/// a fault is carried up with its number unaltered.
 pub fn refusals_leave_the_rest() -> u8
     ensures left { λ _. ⌜ Refusals-leave ⌝ }
     ensures transaction { λ _. ⌜ Same-transaction ⌝ }
     ensures numbers { λ _. ⌜ Infos-answered ⌝ }
+    ensures carried { λ _. ⌜ Numbers-carried ⌝ }
 {
     0
 }
 
-/// In every list of calls, an accepted GetObjectHandles sends just the handles that it is asked for, ascending.
+/// In every list of calls, an accepted GetObjectHandles sends just the handles that it is asked for, ascending; a walk by the
+/// next-file question gives the same handles.
 pub fn listings_are_right() -> u8
-    ensures { λ _. ⌜ Listings-right ⌝ }
+    ensures right { λ _. ⌜ Listings-right ⌝ }
+    ensures walked { λ _. ⌜ Listings-walked ⌝ }
 {
     0
 }
@@ -59,6 +65,13 @@ pub fn listings_are_right() -> u8
 /// Responses as bytes determine the reply, and every reply to calls that a host can make fits its response.
 pub fn responses_tell_replies() -> u8
     ensures { λ _. ⌜ Responses-tell-replies ⌝ }
+{
+    0
+}
+
+/// In every list of calls, an accepted command does to the first store and to the session what its operation says, and no more.
+pub fn accepted_commands_do_what_they_say() -> u8
+    ensures { λ _. ⌜ Accepted-do ⌝ }
 {
     0
 }
