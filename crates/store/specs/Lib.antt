@@ -1,3 +1,7 @@
+pub mod Changes
+pub mod Checks
 pub mod Contents
+pub mod Faults
 pub mod Infos
+pub mod Laws
 pub mod Sound

@@ -1,3 +1,5 @@
-//! Stores: what a store holds, what it can be asked, and what every store keeps to.
+//! Stores: what a store holds, what it can be asked, how it changes, and what every store keeps to.
+pub mod fault;
 pub mod info;
+pub mod laws;
 pub mod read;

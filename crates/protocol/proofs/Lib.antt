@@ -1,0 +1,17 @@
+pub mod Accepted
+pub mod Alike
+pub mod Bindings
+pub mod Effects
+pub mod Found
+pub mod Keeping
+pub mod Listing
+pub mod Looks
+pub mod ReadBack
+pub mod Reading
+pub mod Refusals
+pub mod Responses
+pub mod Sampled
+pub mod Staying
+pub mod Steps
+pub mod Walking
+pub mod Ways
