@@ -1,4 +1,5 @@
 pub mod Changes
+pub mod Changing
 pub mod Checks
 pub mod Contents
 pub mod Faults

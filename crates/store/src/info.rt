@@ -12,3 +12,12 @@ pub struct FileInfo {
     pub name: Name,
     pub length: u32,
 }
+
+/// A file to be added, but for its number and its bytes. Its format, protection and name are legal by their types.
+#[derive(Clone, Copy)]
+pub struct NewFile {
+    pub format: Format,
+    pub protection: Protection,
+    pub parent: u32,
+    pub name: Name,
+}

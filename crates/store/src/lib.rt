@@ -3,3 +3,4 @@ pub mod fault;
 pub mod info;
 pub mod laws;
 pub mod read;
+pub mod write;
