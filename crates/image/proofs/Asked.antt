@@ -26,7 +26,9 @@ use Rattle.image_format.specs.Walk.{Plain, sought, numbered, sought-at, ok-by, 
 use Rattle.image_format.specs.declared.layout.Layout.{Layout}
 use Rattle.image_format.specs.declared.fault.SpoiltImage.{SpoiltImage}
 use Rattle.image_format.proofs.Entries.{first-above, file-numbered, next-first, number-of, lookup-first}
-use Rattle.image_format.proofs.Exact.{accepted}
+use Rattle.bytes.specs.Numbers.{Bytes}
+use Rattle.image_format.specs.Images.{Is-image}
+use Rattle.image_format.proofs.Exact.{accepted, accepted-image}
 use Rattle.image_format.proofs.Inverted.{ok-same, err-ok}
 use Rattle.image_format.proofs.Opening.{err-same}
 use Rattle.image_format.proofs.Walked.{Walked, Finds, sought-walked, Lies}
@@ -152,3 +154,11 @@ pub info-told : (p : Plain) (n : ℕ) (f : File) (name : Name) → Lies p (recor
 info-told p n f name l e =
     let same : name ≡ f .name = some-same (e ∙ l .name) in
     λ i. record { format = l .head i .format; protection = sym (l .protected) i; parent = l .head i .parent; name = same i; length = length (l .body i) }
+
+-- an accepted list of bytes is the image of what it holds
+pub held-image : (image : List ℕ) (l : Layout) → Bytes image → Ok l ≡ ok-by layout-of (parsed image) → Is-image image (held image)
+held-image image l b e = by (parsed image) refl e
+  where
+    by : (r : Result Contents SpoiltImage) → parsed image ≡ r → Ok l ≡ ok-by layout-of r → Is-image image (held-by r)
+    by (Ok c) q e = let a = accepted image c q in subst (Is-image image) (sym (a .1) ∙ ap (λ d. full-of (d .files)) (a .1)) (accepted-image image c b q)
+    by (Err y) q e = absurd (err-ok (sym e))

@@ -2,7 +2,8 @@
 ghost use mathlib.Core.Path.{_≡_};
 ghost use denote.Ref.{now};
 ghost use Rattle.image.specs.Held.{held, verdict-of};
-ghost use Rattle.image_format.specs.Images.{Image-laws};
+ghost use Rattle.image_format.specs.Images.{Image-laws, Is-image};
+ghost use Rattle.std.specs.declared.result.Result.the-variants.{Ok};
 ghost use Rattle.image_format.specs.Parsed.{parsed};
 use crate::store::ImageStore;
 use crate::store::Opened;
@@ -13,6 +14,7 @@ impl<'a> ImageStore<'a> {
     pub fn open(image: &'a [u8]) -> Opened<'a>
         ensures contents { λ r. ⌜ held (now (r .store .image)) ≡ held (now (image .entry)) ⌝ }
         ensures verdict { λ r. ⌜ r .verdict ≡ verdict-of (parsed (now (image .entry))) ⌝ }
+        ensures image { λ r. ⌜ (r .verdict ≡ Ok tt → Is-image (now (image .entry)) (held (now (image .entry)))) ⌝ }
         ensures laws { λ _. ⌜ Image-laws ⌝ }
     {
         match layout_in(image) {
