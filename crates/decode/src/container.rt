@@ -2,10 +2,12 @@
 use crate::dataset::dataset_said;
 use crate::names::operation_name;
 use crate::names::response_name;
+use crate::numbers::numbers_said;
 use bytes::cut::cut_u16;
 use bytes::cut::cut_u32;
 use std::alloc::AllocError;
 use std::alloc::Global;
+use wire::command::Command;
 
 /// The fields of a head.
 #[derive(Clone, Copy)]
@@ -39,36 +41,39 @@ fn code_said(heap: Global, name: Option<&'static str>, code: u16) -> Result<Stri
     }
 }
 
-/// Parameters in their order.
+/// Parameters in their order, and how many bytes behind them make no whole one.
 fn parameters_said(heap: Global, payload: &[u8]) -> Result<String, AllocError> {
     if payload.is_empty() {
         return Ok(String::new(heap));
     }
-    let mut said = String::from_str(heap, ", parameters")?;
-    let mut rest = payload;
-    while let Some((parameter, behind)) = cut_u32(rest) {
-        let number = format!(heap, " {parameter:#x}")?;
-        said.push_str(number.as_str())?;
-        rest = behind;
+    let numbers = numbers_said(heap, payload)?;
+    let odd = payload.len() % 4;
+    if odd == 0 {
+        format!(heap, ", parameters{numbers}")
+    } else {
+        format!(heap, ", parameters{numbers} and {odd} bytes")
     }
-    if !rest.is_empty() {
-        let odd = rest.len();
-        let error = format!(heap, ", error: {odd} bytes are no whole parameter")?;
-        said.push_str(error.as_str())?;
-    }
-    Ok(said)
 }
 
-fn body_said(heap: Global, head: Head, payload: &[u8]) -> Result<String, AllocError> {
+/// Whether the responder takes the bytes for a command.
+fn verdict(bytes: &[u8]) -> &'static str {
+    match Command::read(bytes) {
+        Ok(_) => "",
+        Err(_) => ", error: a stray container",
+    }
+}
+
+fn body_said(heap: Global, head: Head, bytes: &[u8], payload: &[u8]) -> Result<String, AllocError> {
     let code = head.code;
     let transaction = head.transaction;
     match head.kind {
         1 => {
             let name = code_said(heap, operation_name(code), code)?;
             let parameters = parameters_said(heap, payload)?;
+            let verdict = verdict(bytes);
             format!(
                 heap,
-                "command {name}, transaction {transaction}{parameters}"
+                "command {name}, transaction {transaction}{parameters}{verdict}"
             )
         }
         2 => {
@@ -101,7 +106,7 @@ pub fn container_said(heap: Global, bytes: &[u8]) -> Result<String, AllocError> 
         Some((head, payload)) => {
             let len = head.len;
             if len as usize == count {
-                body_said(heap, head, payload)
+                body_said(heap, head, bytes, payload)
             } else {
                 format!(
                     heap,

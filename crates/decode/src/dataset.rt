@@ -1,9 +1,10 @@
 //! Datasets in words.
 use crate::fields::device_in;
 use crate::fields::storage_in;
+use crate::numbers::codes_said;
+use crate::numbers::numbers_said;
 use crate::text::quoted_bytes;
 use crate::text::quoted_units;
-use bytes::cut::cut_u16;
 use bytes::cut::cut_u32;
 use object::protection::Protection;
 use std::alloc::AllocError;
@@ -50,18 +51,6 @@ fn storage_said(heap: Global, payload: &[u8]) -> Result<String, AllocError> {
     )
 }
 
-/// The 16-bit numbers that bytes hold, each behind a space.
-fn codes_said(heap: Global, codes: &[u8]) -> Result<String, AllocError> {
-    let mut said = String::new(heap);
-    let mut rest = codes;
-    while let Some((code, behind)) = cut_u16(rest) {
-        let number = format!(heap, " {code:#06x}")?;
-        said.push_str(number.as_str())?;
-        rest = behind;
-    }
-    Ok(said)
-}
-
 fn device_said(heap: Global, payload: &[u8]) -> Result<String, AllocError> {
     let Some(fields) = device_in(payload) else {
         return String::from_str(heap, "error: no DeviceInfo");
@@ -88,14 +77,8 @@ fn array_said(heap: Global, what: &str, payload: &[u8]) -> Result<String, AllocE
     if numbers.len() / 4 != count as usize || numbers.len() % 4 != 0 {
         return format!(heap, "error: no array of {count} {what}");
     }
-    let mut said = format!(heap, "{count} {what}:")?;
-    let mut rest = numbers;
-    while let Some((number, behind)) = cut_u32(rest) {
-        let shown = format!(heap, " {number:#x}")?;
-        said.push_str(shown.as_str())?;
-        rest = behind;
-    }
-    Ok(said)
+    let said = numbers_said(heap, numbers)?;
+    format!(heap, "{count} {what}:{said}")
 }
 
 /// What is said of the payload of a data container.

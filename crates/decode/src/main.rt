@@ -9,6 +9,7 @@ mod fields;
 mod hex;
 mod line;
 mod names;
+mod numbers;
 mod text;
 
 fn main(rt: LibcRuntime) -> io::Result<()> {

@@ -9,14 +9,15 @@ use lib.ListN.{length, take, drop, replicate}
 use Rattle.std.specs.declared.option.Option.{Option}
 use Rattle.std.specs.declared.option.Option.the-variants.{Some, None}
 use Rattle.std.specs.shelf.Lists.{All}
-use Rattle.std.proofs.shelf.Lists.{take-at, drop-at, length-append}
-use Rattle.std.proofs.shelf.Tests.{eq-eqb, ne-eqb, eqb-true, le-leb, and-from, cond-true, cond-false}
+use Rattle.std.proofs.shelf.Lists.{take-at, drop-at, drop-drop, take-append-drop, length-append, length-drop, length-take-le}
+use Rattle.std.proofs.shelf.Elements.{all-take, all-drop}
+use Rattle.std.proofs.shelf.Tests.{eq-eqb, ne-eqb, eqb-true, le-leb, leb-true, and-from, and-parts, cond-true, cond-false}
 use Rattle.bytes.specs.Numbers.{Bytes, le, value}
 use Rattle.bytes.proofs.Cutting.{none-some, some-same, through}
-use Rattle.bytes.proofs.LittleEndian.{length-le, value-le}
+use Rattle.bytes.proofs.LittleEndian.{length-le, value-le, value-bound, le-value}
 use Rattle.object.specs.Names.{unit-bytes}
 use Rattle.wire.specs.Containers.{number-at, numbers, container, is-container, is-command, is-data, command-type, data-type, response-type, command-in, payload-in, data-container, head, response}
-use Rattle.wire.specs.Laws.{Unit-fits, Strings-read-back, five, Commands-read-back, Data-reads-back, Heads-join, Response-fits, response-bytes, Responses-read-back, Arrays-read-back}
+use Rattle.wire.specs.Laws.{Unit-fits, Strings-read-back, five, Carried, Commands-read-back, Data-reads-back, Heads-join, Response-fits, response-bytes, Responses-read-back, Arrays-read-back}
 use Rattle.wire.specs.Readers.{number-list, Response, response-in, array-in}
 use Rattle.wire.specs.Strings.{string, Read, with-unit, closed-units, string-in, array}
 use Rattle.wire.specs.declared.command.Command.{Command}
@@ -47,7 +48,7 @@ module _ (kind code transaction : ℕ) (payload : List ℕ) where
   unfolding container
   container-length = omega arith
 
-pub data-back : Data-reads-back
+data-back : (code transaction : ℕ) (payload : List ℕ) → code < 2 ^ 16 → transaction < 2 ^ 32 → 12 + length payload < 2 ^ 32 → payload-in code transaction (data-container code transaction payload) ≡ Some payload
 unfolding payload-in
 data-back code transaction payload h k l =
     cond-true _ _ _
@@ -99,13 +100,6 @@ response-back r f =
       parameters = (ap (number-list 4 ((length bs - 12) / 4)) (payload-back response-type (r .code) (r .transaction) (numbers 4 ps)) ∙ ap (λ n. number-list 4 n (numbers 4 ps)) count ∙ list-back 4 ps (f .parameters)) i;
     }))
 
-pub responses-back : Responses-read-back
-responses-back =
-    record {
-      back = response-back;
-      one = λ r s f g e. some-same (sym (response-back r f) ∙ ap response-in e ∙ response-back s g);
-    }
-
 -- the five parameters of a command
 abbrev at-places : List ℕ → List ℕ
 at-places bs = number-at 4 12 bs ∷ number-at 4 16 bs ∷ number-at 4 20 bs ∷ number-at 4 24 bs ∷ number-at 4 28 bs ∷ []
@@ -120,7 +114,7 @@ five-back code transaction (a ∷ b ∷ c ∷ d ∷ []) h l = λ i. value-le 4 a
 five-back code transaction (a ∷ b ∷ c ∷ d ∷ e ∷ []) h l = λ i. value-le 4 a (h .0) i ∷ value-le 4 b (h .1 .0) i ∷ value-le 4 c (h .1 .1 .0) i ∷ value-le 4 d (h .1 .1 .1 .0) i ∷ value-le 4 e (h .1 .1 .1 .1 .0) i ∷ []
 five-back code transaction (a ∷ b ∷ c ∷ d ∷ e ∷ f ∷ ps) h l = absurd (omega arith)
 
-pub command-back : Commands-read-back
+command-back : (code transaction : ℕ) (ps : List ℕ) → code < 2 ^ 16 → transaction < 2 ^ 32 → All (λ p. p < 2 ^ 32) ps → length ps ≤ 5 → command-in (container command-type code transaction (numbers 4 ps)) ≡ Some (record { code = code; transaction = transaction; parameters = five ps })
 unfolding command-in
 command-back code transaction ps h k p l =
     let bs = container command-type code transaction (numbers 4 ps) in
@@ -134,6 +128,120 @@ command-back code transaction ps h k p l =
       transaction = transaction-back command-type code transaction (numbers 4 ps) k i;
       parameters = five-back code transaction ps p l i;
     }))
+
+-- the bytes at a place are those of the number there
+field : (k place : ℕ) (bs : List ℕ) → Bytes bs → place + k ≤ length bs → drop place bs ≡ le k (number-at k place bs) ++ drop (place + k) bs
+field k place bs h l =
+    let part = take k (drop place bs) in
+    let d = length-drop place bs in
+    let long : length part ≡ k = length-take-le k (drop place bs) (omega arith) in
+    let bytes = all-take (λ b. b < 256) k (drop place bs) (all-drop (λ b. b < 256) place bs h) in
+    sym (take-append-drop k (drop place bs))
+    ∙ (λ i. (sym (le-value part bytes) ∙ ap (λ n. le n (value part)) long) i ++ drop-drop k place bs i)
+
+-- whatever is taken for a container is the container of its fields
+container-only : (kind : ℕ) (bs : List ℕ) → Bytes bs → is-container kind bs ≡ true → bs ≡ container kind (number-at 2 6 bs) (number-at 4 8 bs) (drop 12 bs)
+unfolding container
+container-only kind bs h e =
+    let p = and-parts (leb 12 (length bs)) _ e in
+    let q = and-parts (eqb (number-at 4 0 bs) (length bs)) _ (p .1) in
+    let l = leb-true 12 (length bs) (p .0) in
+    let d = length-drop 12 bs in
+    let whole : number-at 4 0 bs ≡ 12 + length (drop 12 bs) = eqb-true (number-at 4 0 bs) (length bs) (q .0) ∙ omega arith in
+    let same : number-at 2 4 bs ≡ kind = eqb-true (number-at 2 4 bs) kind (q .1) in
+    field 4 0 bs h (omega arith)
+    ∙ (λ i. le 4 (whole i) ++ (field 2 4 bs h (omega arith) ∙ (λ j. le 2 (same j) ++ (field 2 6 bs h (omega arith) ∙ ap (λ r. le 2 (number-at 2 6 bs) ++ r) (field 4 8 bs h (omega arith))) j)) i)
+
+-- bytes in fours are the numbers in them
+numbers-only : (n : ℕ) (bs : List ℕ) → Bytes bs → length bs ≡ 4 * n → numbers 4 (number-list 4 n bs) ≡ bs
+numbers-only zero [] h l = refl
+numbers-only zero (b ∷ bs) h l = absurd (omega arith)
+numbers-only (suc n) bs h l =
+    let d = length-drop 4 bs in
+    sym (field 4 0 bs h (omega arith) ∙ ap (λ r. le 4 (value (take 4 bs)) ++ r) (sym (numbers-only n (drop 4 bs) (all-drop (λ b. b < 256) 4 bs h) (omega arith))))
+
+-- numbers of a list, one more place at a time
+length-list : (k n : ℕ) (bs : List ℕ) → length (number-list k n bs) ≡ n
+length-list k zero bs = refl
+length-list k (suc n) bs = ap suc (length-list k n (drop k bs))
+
+data-only : (code transaction : ℕ) (bs payload : List ℕ) → Bytes bs → payload-in code transaction bs ≡ Some payload → bs ≡ data-container code transaction payload
+unfolding payload-in
+data-only code transaction bs payload h e =
+    let p = through (is-data code transaction bs) (drop 12 bs) payload e in
+    let q = and-parts (is-container data-type bs) _ (p .0) in
+    let r = and-parts (eqb (number-at 2 6 bs) code) _ (q .1) in
+    container-only data-type bs h (q .0)
+    ∙ (λ i. container data-type (eqb-true (number-at 2 6 bs) code (r .0) i) (eqb-true (number-at 4 8 bs) transaction (r .1) i) (p .1 i))
+
+pub data-law : Data-reads-back
+data-law = record { back = data-back; only = data-only }
+
+numbers-fit : (n : ℕ) (bs : List ℕ) → Bytes bs → length bs ≡ 4 * n → All (λ p. p < 2 ^ 32) (number-list 4 n bs)
+numbers-fit zero bs h l = tt
+numbers-fit (suc n) bs h l =
+    let d = length-drop 4 bs in
+    let bound : value (take 4 bs) < 256 ^ 4 =
+    subst (λ k. value (take 4 bs) < 256 ^ k) (length-take-le 4 bs (omega arith)) (value-bound (take 4 bs) (all-take (λ b. b < 256) 4 bs h)) in
+    (bound, numbers-fit n (drop 4 bs) (all-drop (λ b. b < 256) 4 bs h) (omega arith))
+
+-- the payload of a container whose length is a multiple of 4 is numbers
+module _ (bs : List ℕ) (h : Bytes bs) (l : 12 ≤ length bs) (s : length bs ≤ 32) (m : length bs % 4 ≡ 0) where
+  pub all-fit : All (λ p. p < 2 ^ 32) (number-list 4 ((length bs - 12) / 4) (drop 12 bs))
+  all-fit =
+      let d = length-drop 12 bs in
+      numbers-fit ((length bs - 12) / 4) (drop 12 bs) (all-drop (λ b. b < 256) 12 bs h) (omega arith)
+
+  pub at-most-five : length (number-list 4 ((length bs - 12) / 4) (drop 12 bs)) ≤ 5
+  at-most-five = let e = length-list 4 ((length bs - 12) / 4) (drop 12 bs) in omega arith
+
+  pub in-fours : numbers 4 (number-list 4 ((length bs - 12) / 4) (drop 12 bs)) ≡ drop 12 bs
+  in-fours =
+      let d = length-drop 12 bs in
+      numbers-only ((length bs - 12) / 4) (drop 12 bs) (all-drop (λ b. b < 256) 12 bs h) (omega arith)
+
+response-only : (bs : List ℕ) (r : Response) → Bytes bs → response-in bs ≡ Some r → bs ≡ response-bytes r
+unfolding response-in
+response-only bs r h e =
+    let x : Response = record { code = number-at 2 6 bs; transaction = number-at 4 8 bs; parameters = number-list 4 ((length bs - 12) / 4) (drop 12 bs) } in
+    let p = through (is-container response-type bs && (leb (length bs) 32 && eqb (length bs % 4) 0)) x r e in
+    let q = and-parts (is-container response-type bs) _ (p .0) in
+    let w = and-parts (leb (length bs) 32) _ (q .1) in
+    let l = leb-true 12 (length bs) (and-parts (leb 12 (length bs)) _ (q .0) .0) in
+    container-only response-type bs h (q .0)
+    ∙ ap (λ ps. container response-type (number-at 2 6 bs) (number-at 4 8 bs) ps) (sym (in-fours bs h l (leb-true (length bs) 32 (w .0)) (eqb-true (length bs % 4) 0 (w .1))))
+    ∙ ap response-bytes (p .1)
+
+pub responses-back : Responses-read-back
+responses-back =
+    record {
+      back = response-back;
+      only = response-only;
+      one = λ r s f g e. some-same (sym (response-back r f) ∙ ap response-in e ∙ response-back s g);
+    }
+
+command-only : (bs : List ℕ) (c : Command) → Bytes bs → command-in bs ≡ Some c → Carried bs c
+unfolding command-in
+command-only bs c h e =
+    let x : Command = record { code = number-at 2 6 bs; transaction = number-at 4 8 bs; parameters = at-places bs } in
+    let p = through (is-command bs) x c e in
+    let q = and-parts (is-container command-type bs) _ (p .0) in
+    let w = and-parts (leb (length bs) 32) _ (q .1) in
+    let l = leb-true 12 (length bs) (and-parts (leb 12 (length bs)) _ (q .0) .0) in
+    let s = leb-true (length bs) 32 (w .0) in
+    let m = eqb-true (length bs % 4) 0 (w .1) in
+    let ps = number-list 4 ((length bs - 12) / 4) (drop 12 bs) in
+    let is : bs ≡ container command-type (number-at 2 6 bs) (number-at 4 8 bs) (numbers 4 ps) =
+    container-only command-type bs h (q .0) ∙ ap (λ r. container command-type (number-at 2 6 bs) (number-at 4 8 bs) r) (sym (in-fours bs h l s m)) in
+    record {
+      parameters = ps;
+      few = at-most-five bs h l s m;
+      missing = ap (λ d. d .parameters) (sym (p .1)) ∙ ap at-places is ∙ five-back (number-at 2 6 bs) (number-at 4 8 bs) ps (all-fit bs h l s m) (at-most-five bs h l s m);
+      is = is ∙ ap (λ d. container command-type (d .code) (d .transaction) (numbers 4 ps)) (p .1);
+    }
+
+pub commands-law : Commands-read-back
+commands-law = record { back = command-back; only = command-only }
 
 -- strings
 unit-value : (u : ℕ) → u < 2 ^ 16 → u % 256 + 256 * (u / 256 % 256) ≡ u

@@ -65,6 +65,7 @@ unfoldable pub payload-in : ℕ → ℕ → List ℕ → Option (List ℕ)
 payload-in code transaction bs =
     cond (is-data code transaction bs) (Some (drop 12 bs)) None
 
+-- a data container
 abbrev pub data-container : ℕ → ℕ → List ℕ → List ℕ
 data-container code transaction payload = container data-type code transaction payload
 

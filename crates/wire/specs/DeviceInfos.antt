@@ -19,5 +19,6 @@ device-codes = array 2 operation-codes ++ (array 2 [] ++ (array 2 [] ++ (array 2
 abbrev pub device-texts : List ℕ
 device-texts = string (codes "Spares") ++ (string (codes "Drip") ++ (string (codes "1") ++ string (codes "0")))
 
+-- the whole dataset
 unfoldable pub device-info : List ℕ
 device-info = device-version ++ (device-codes ++ device-texts)

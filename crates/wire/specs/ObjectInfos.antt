@@ -35,6 +35,7 @@ object-fields i =
 unfoldable pub object-info : ObjectInfo → List ℕ
 object-info i = object-fields i ++ (string (units-of (i .name)) ++ (string [] ++ (string [] ++ string [])))
 
+-- a string was read, and what lies behind it passes the test
 abbrev pub rest-is : (List ℕ → Bool) → Option Read → Bool
 rest-is test None = false
 rest-is test (Some r) = test (r .rest)
@@ -49,12 +50,14 @@ are-strings (suc n) bs = rest-is (λ rest. are-strings n rest) (string-in bs)
 abbrev pub protection-at : List ℕ → Option Protection
 protection-at bs = protection-of (number-at 2 6 bs)
 
+-- the record, if protection and name are there
 abbrev pub info-from : List ℕ → Option Protection → Option Name → Option ObjectInfo
 info-from bs None name = None
 info-from bs (Some p) None = None
 info-from bs (Some p) (Some n) =
     Some (record { storage = number-at 4 0 bs; format = number-at 2 4 bs; protection = p; size = number-at 4 8 bs; parent = number-at 4 38 bs; name = n })
 
+-- the record, if the first string was read and three more are there
 abbrev pub info-named : List ℕ → Option Read → Option ObjectInfo
 info-named bs None = None
 info-named bs (Some r) = cond (are-strings 3 (r .rest)) (info-from bs (protection-at bs) (named (r .units))) None

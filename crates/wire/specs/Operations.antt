@@ -55,6 +55,7 @@ operations =
     ∷ row get-object-handles 3 ∷ row get-object-info 1 ∷ row get-object 1 ∷ row delete-object 2 ∷ row send-object-info 2
     ∷ row send-object 0 ∷ row get-partial-object 3 ∷ []
 
+-- the first row with this code, if there is one
 abbrev pub row-in : List Operation → ℕ → Option Operation
 row-in [] code = None
 row-in (o ∷ os) code = cond (eqb (o .code) code) (Some o) (row-in os code)
@@ -63,5 +64,6 @@ row-in (o ∷ os) code = cond (eqb (o .code) code) (Some o) (row-in os code)
 unfoldable pub operation-of : ℕ → Option Operation
 operation-of code = row-in operations code
 
+-- the codes that the device tells
 abbrev pub operation-codes : List ℕ
 operation-codes = map (λ o. o .code) operations

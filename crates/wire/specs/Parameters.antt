@@ -12,5 +12,6 @@ use Rattle.wire.specs.declared.response.Parameters.{Parameters}
 abbrev pub listed : Parameters → List ℕ
 listed p = take (p .count) (p .values)
 
+-- these parameters, if a response has room for them
 abbrev pub at-most-five : List ℕ → Option (List ℕ)
 at-most-five ps = cond (leb (length ps) 5) (Some ps) None

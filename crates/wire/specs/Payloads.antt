@@ -14,6 +14,7 @@ abbrev pub behind-head : Option (List ℕ) → Option (List ℕ × ℕ)
 behind-head None = None
 behind-head (Some payload) = Some (payload, 12)
 
+-- what the reader's answer holds
 abbrev pub seen-payload : Result Payload DatasetFault → Result (List ℕ × ℕ) DatasetFault
 seen-payload (Ok p) = Ok (now (p .bytes), p .place)
 seen-payload (Err e) = Err e

@@ -20,6 +20,7 @@ abbrev pub number-list : ℕ → ℕ → List ℕ → List ℕ
 number-list k zero bs = []
 number-list k (suc n) bs = value (take k bs) ∷ number-list k n (drop k bs)
 
+-- what a response says
 pub record Response : Type 0 where
   pub code : ℕ
   pub transaction : ℕ
@@ -40,13 +41,15 @@ response-in bs =
 unfoldable pub array-in : ℕ → List ℕ → Option (List ℕ)
 array-in k bs = cond (leb 4 (length bs) && eqb (length bs) (4 + k * number-at 4 0 bs)) (Some (number-list k (number-at 4 0 bs) (drop 4 bs))) None
 
--- the storage with this type, and what an access capability says of writing
+-- the storage with this type
 abbrev pub kind-of : ℕ → Option StorageKind
 kind-of n = with-number storage-type (Programs ∷ Handbook ∷ []) n
 
+-- whether a storage of this access capability can be written
 abbrev pub writable-of : ℕ → Option Bool
 writable-of n = with-number access-capability (true ∷ false ∷ []) n
 
+-- the record, if type and access capability are known
 abbrev pub storage-from : List ℕ → Option StorageKind → Option Bool → Option StorageInfo
 storage-from bs None w = None
 storage-from bs (Some k) None = None

@@ -14,6 +14,7 @@ abbrev pub storage-type : StorageKind → ℕ
 storage-type Programs = 3
 storage-type Handbook = 1
 
+-- the description of a storage
 abbrev pub storage-label : StorageKind → List ℕ
 storage-label Programs = codes "Programs"
 storage-label Handbook = codes "Handbook"

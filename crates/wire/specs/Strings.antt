@@ -20,6 +20,7 @@ pub record Read : Type 0 where
   pub units : List ℕ
   pub rest : List ℕ
 
+-- a unit before those of a reading that went well
 abbrev pub with-unit : ℕ → Option Read → Option Read
 with-unit u None = None
 with-unit u (Some r) = Some (record { units = u ∷ r .units; rest = r .rest })

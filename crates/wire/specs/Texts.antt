@@ -12,5 +12,6 @@ use Rattle.wire.specs.Strings.{Read}
 abbrev pub text-parts : Text → Option (List ℕ) × List ℕ
 text-parts t = (units-in (now (t .units)), now (t .rest))
 
+-- the same of a string as it is defined
 abbrev pub read-parts : Read → Option (List ℕ) × List ℕ
 read-parts r = (Some (r .units), r .rest)
