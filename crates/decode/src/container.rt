@@ -51,7 +51,7 @@ fn parameters_said(heap: Global, payload: &[u8]) -> Result<String, AllocError> {
     if odd == 0 {
         format!(heap, ", parameters{numbers}")
     } else {
-        format!(heap, ", parameters{numbers} and {odd} bytes")
+        format!(heap, ", parameters{numbers}, {odd} bytes over")
     }
 }
 
