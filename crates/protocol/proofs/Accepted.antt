@@ -1,12 +1,9 @@
 -- What accepted operations do, in every list of calls.
-use mathlib.Core.Path.{_≡_, refl, sym, ap, subst, _∙_}
-use mathlib.Core.Logic.{_⊎_, inl, inr}
-use mathlib.Core.List.{List, [], _∷_}
-use Prim.Native.Nat.{ℕ, suc, _≤_}
-use lib.Dec.{eqb}
-use mathlib.Core.Bool.{false}
-use Rattle.store.specs.Contents.{File, Contents}
-use Rattle.store.specs.Sound.{last-number}
+use mathlib.Core.Path.{_≡_, refl}
+use mathlib.Core.Logic.{inl, inr}
+use mathlib.Core.List.{List, []}
+use Prim.Native.Nat.{ℕ}
+use Rattle.store.specs.Contents.{Contents}
 use Rattle.store.specs.Changes.{adding, removing}
 use Rattle.store.proofs.Kept.{changes-keep}
 use Rattle.store.proofs.Told.{past-is}
@@ -17,17 +14,17 @@ use Rattle.protocol.specs.declared.session.Session.{Session}
 use Rattle.protocol.specs.declared.session.Session.the-variants.{Closed, Open}
 use Rattle.protocol.specs.declared.session.Transfer.{Transfer}
 use Rattle.protocol.specs.declared.session.Transfer.the-variants.{Idle, Announced}
-use Rattle.protocol.specs.Accepted.{Opens-session, Closes-session, Deletes-object, Announces-object, Sends-object, Acts, Does, Accepted-do}
+use Rattle.protocol.specs.Accepted.{Opens-session, Closes-session, Deletes-object, Announces-object, Sends-object, Does, Accepted-do}
 use Rattle.protocol.specs.Commands.{parameter}
 use Rattle.protocol.specs.Faults.{ok}
 use Rattle.protocol.specs.Storages.{Storages, Sound-storages}
 use Rattle.protocol.specs.Acting.{given-next, at-rest, file-of, parent-told}
 use Rattle.protocol.specs.Invariant.{State-fits}
-use Rattle.protocol.specs.Machine.{State, Answer, moved, acted, with-first, answered, state-after, fresh}
+use Rattle.protocol.specs.Machine.{State, Answer, moved, acted, answered, state-after, fresh}
 use Rattle.protocol.proofs.Ways.{apart, fault-not-ok}
-use Rattle.protocol.proofs.Effects.{acceptance, handles-told, Deletes, Gives, a-folder, a-file, Brings, opened, parent-tells}
+use Rattle.protocol.proofs.Effects.{acceptance, handles-told, Gives, a-folder, a-file, opened, parent-tells}
 use Rattle.protocol.proofs.Steps as steps
-use Rattle.protocol.proofs.Steps.{Told, Went, Went-closed, open-went, closed-went, told-no-close, told-no-delete, told-no-info, told-no-object}
+use Rattle.protocol.proofs.Steps.{Went, Went-closed, open-went, closed-went, told-no-close, told-no-delete, told-no-info, told-no-object}
 use Rattle.protocol.proofs.Staying.{reached}
 
 -- what a command does that has one of these codes, as the others are not its own

@@ -1,18 +1,18 @@
 -- What a new responder tells of its storages, and that it tells all.
-use mathlib.Core.Path.{_≡_, refl, sym, ap, subst, _∙_}
+use mathlib.Core.Path.{_≡_, refl, sym, ap, _∙_}
 use mathlib.Core.Logic.{_⊎_, inl, inr}
-use mathlib.Core.Bool.{Bool, true, false, cond, not, _||_}
-use mathlib.Core.List.{List, [], _∷_, _++_}
-use Prim.Native.Nat.{ℕ, suc, _+_, _*_, _-_, _^_, _≤_, _<_}
+use mathlib.Core.Bool.{Bool, true, false, cond, not}
+use mathlib.Core.List.{List, [], _∷_}
+use Prim.Native.Nat.{ℕ, _+_, _*_, _-_, _^_, _≤_, _<_}
 use native.Mathlib.Omega.{arith}
 use lib.Dec.{eqb, ltb, leb}
 use lib.ListN.{length, drop, getD}
 use Rattle.std.specs.declared.option.Option.{Option}
 use Rattle.std.specs.declared.option.Option.the-variants.{Some, None}
 use Rattle.std.specs.declared.result.Result.{Result}
-use Rattle.std.specs.declared.result.Result.the-variants.{Ok, Err}
+use Rattle.std.specs.declared.result.Result.the-variants.{Err}
 use Rattle.std.proofs.shelf.Lists.{length-append, nil-from-length}
-use Rattle.std.proofs.shelf.Tests.{le-leb, cond-true, cases-lt, eqb-true, both-ways, true≢false}
+use Rattle.std.proofs.shelf.Tests.{le-leb, cond-true, cases-lt, eqb-true, true≢false}
 use Rattle.bytes.specs.Numbers.{le, value}
 use Rattle.bytes.proofs.LittleEndian.{value-le}
 use Rattle.bytes.proofs.Cutting.{some-same}
@@ -20,16 +20,13 @@ use Rattle.object.specs.Formats.{is-folder, format-number, format-of}
 use Rattle.object.specs.Names.{units-of, unit-bytes}
 use Rattle.object.specs.declared.format.Format.{Format}
 use Rattle.object.specs.declared.format.Format.the-variants.{Undefined, Association, Text}
-use Rattle.object.specs.declared.name.Name.{Name}
-use Rattle.object.specs.declared.protection.Protection.{Protection}
 use Rattle.object.proofs.Stored.{units-short}
 use Rattle.store.specs.Checks.{provided}
-use Rattle.store.specs.Contents.{File, Entry, Contents, total, lookup}
-use Rattle.store.specs.Sound.{Sound, last-number}
+use Rattle.store.specs.Contents.{File, Entry, Contents, lookup}
+use Rattle.store.specs.Sound.{Sound}
 use Rattle.store.proofs.Lookups.{same-files}
 use Rattle.wire.specs.declared.command.Command.{Command}
 use Rattle.wire.specs.declared.info.ObjectInfo.{ObjectInfo}
-use Rattle.wire.specs.declared.info.StorageInfo.{StorageInfo}
 use Rattle.wire.specs.declared.info.StorageKind.{StorageKind}
 use Rattle.wire.specs.declared.info.StorageKind.the-variants.{Programs, Handbook}
 use Rattle.wire.specs.Containers.{number-at, container}
@@ -39,14 +36,13 @@ use Rattle.wire.specs.StorageInfos.{storage-info}
 use Rattle.wire.specs.Operations.{open-session, get-storage-info, get-object-info, get-object, operation-of}
 use Rattle.protocol.specs.declared.fault.OperationFault.{OperationFault}
 use Rattle.protocol.specs.declared.fault.OperationFault.the-variants.{InvalidHandle}
-use Rattle.protocol.specs.declared.session.Session.{Session}
-use Rattle.protocol.specs.declared.session.Session.the-variants.{Closed, Open}
+use Rattle.protocol.specs.declared.session.Session.the-variants.{Open}
 use Rattle.protocol.specs.Checks.{present}
-use Rattle.protocol.specs.Faults.{ok, operation-fault-number}
+use Rattle.protocol.specs.Faults.{ok}
 use Rattle.protocol.specs.Storages.{Storages, Sound-storages, first-storage, second-storage, second-base, object-at}
 use Rattle.protocol.specs.Looking.{Shown, shows, storage-info-of, storage-shown, info-of, info-shown, object-shown, parent-handle}
 use Rattle.protocol.specs.Acting.{session-opened}
-use Rattle.protocol.specs.Machine.{Reply, Answer, Call, answer, moved, looked, data-of, refused, answered, task-of, replies, fresh}
+use Rattle.protocol.specs.Machine.{Reply, Answer, Call, answer, moved, looked, data-of, answered, task-of, replies, fresh}
 use Rattle.protocol.specs.Alike.{Real-command, Real, Alike, Replies-tell-contents}
 use Rattle.protocol.proofs.Ways.{fault-not-ok}
 use Rattle.protocol.proofs.Effects.{opened}

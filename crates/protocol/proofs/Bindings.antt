@@ -1,10 +1,10 @@
 -- Lists of bindings: who is bound, and to what.
-use mathlib.Core.Path.{_≡_, refl, sym, ap, subst, _∙_}
+use mathlib.Core.Path.{_≡_, refl, sym, ap, _∙_}
 use mathlib.Core.Logic.{_⊎_, inl, inr}
 use mathlib.Core.List.{List, [], _∷_, _++_}
-use Prim.Native.Nat.{ℕ, suc, _+_, _≤_, _<_}
+use Prim.Native.Nat.{ℕ, _+_, _≤_, _<_}
 use native.Mathlib.Omega.{arith}
-use Rattle.std.specs.declared.option.Option.the-variants.{Some, None}
+use Rattle.std.specs.declared.option.Option.the-variants.{Some}
 use Rattle.std.specs.shelf.Lists.{All}
 use Rattle.std.proofs.shelf.Tests.{cases-eq}
 use Rattle.bytes.proofs.Cutting.{none-some, some-same}
@@ -12,8 +12,8 @@ use Rattle.store.specs.Contents.{File, Entry, lookup}
 use Rattle.store.specs.Sound.{Ascending}
 use Rattle.store.specs.Laws.{Below}
 use Rattle.store.proofs.Lookups.{lookup-here, lookup-past}
-use Rattle.protocol.specs.Storages.{Storages, second-base}
-use Rattle.protocol.specs.Keeping.{Binding, bound-on, bound-at-opening, Bound, Unbound, Once, Not-among}
+use Rattle.protocol.specs.Storages.{second-base}
+use Rattle.protocol.specs.Keeping.{Binding, bound-on, Bound, Unbound, Once, Not-among}
 
 -- handles below a number, or on the second storage
 abbrev pub Apart : ℕ → List Binding → Type 0

@@ -9,9 +9,8 @@ use lib.Dec.{eqb, leb, ltb}
 use lib.ListN.{length}
 use Rattle.std.specs.declared.option.Option.{Option}
 use Rattle.std.specs.declared.option.Option.the-variants.{Some, None}
-use Rattle.std.specs.declared.result.Result.{Result}
 use Rattle.std.specs.declared.result.Result.the-variants.{Ok, Err}
-use Rattle.std.proofs.shelf.Tests.{and-parts, eqb-true, eqb-false, eq-eqb, leb-true, ltb-true, not-true, or-cases, cases-bool, both-ways, true≢false, cond-true}
+use Rattle.std.proofs.shelf.Tests.{and-parts, eqb-true, eqb-false, leb-true, ltb-true, not-true, or-cases, both-ways, true≢false, cond-true}
 use Rattle.bytes.proofs.Cutting.{none-some, some-same}
 use Rattle.object.specs.Formats.{is-folder, format-of, format-number, formats}
 use Rattle.object.specs.Numbered.{with-number}
@@ -21,10 +20,10 @@ use Rattle.object.specs.declared.protection.Protection.the-variants.{Unprotecte
 use Rattle.store.specs.declared.fault.StoreFault.{StoreFault}
 use Rattle.store.specs.declared.fault.StoreFault.the-variants as stores
 use Rattle.store.specs.Checks.{provided}
-use Rattle.store.specs.Contents.{File, Entry, Contents, total, lookup}
+use Rattle.store.specs.Contents.{File, Contents, total, lookup}
 use Rattle.store.specs.Sound.{is-parent, folder-there, last-number, max-length}
 use Rattle.store.specs.Changes.{added, removed, inserted, with-files, has-room, past-last}
-use Rattle.store.specs.Laws.{Below, Addable}
+use Rattle.store.specs.Laws.{Addable}
 use Rattle.store.proofs.Checks.{Either-way, checked}
 use Rattle.store.proofs.Kept.{added-taken, parent-cases}
 use Rattle.wire.specs.declared.command.Command.{Command}
@@ -46,8 +45,8 @@ use Rattle.protocol.specs.Checks.{present}
 use Rattle.protocol.specs.Faults.{ok, operation-fault-number, parameters-of, of-store, of-dataset}
 use Rattle.protocol.specs.Commands.{parameter}
 use Rattle.protocol.specs.Storages.{Storages, first-storage, second-storage, root, is-storage, second-base, object-at}
-use Rattle.protocol.specs.Acting.{Outcome, settled, accepts, session-opened, session-closed, object-deleted, is-unprotected, info-sent, dataset-in, is-root, parent-number, parent-told, given-next, at-rest, file-of, announced, object-sent, sent-for, announcement-in, payload-of-size}
-use Rattle.protocol.specs.Invariant.{Stands, Open-fits, Transfer-fits}
+use Rattle.protocol.specs.Acting.{Outcome, settled, session-opened, session-closed, object-deleted, is-unprotected, info-sent, dataset-in, is-root, parent-number, parent-told, given-next, at-rest, file-of, announced, object-sent, sent-for, announcement-in, payload-of-size}
+use Rattle.protocol.specs.Invariant.{Stands, Open-fits}
 use Rattle.protocol.proofs.Ways.{present-ways, and-then-ways, cond-ways, settled-ways}
 
 -- an outcome that is a refusal, or that is accepted

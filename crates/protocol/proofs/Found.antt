@@ -2,23 +2,21 @@
 use mathlib.Core.Path.{_≡_, refl, sym, ap, subst, _∙_}
 use mathlib.Core.Logic.{_⊎_, inl, inr}
 use mathlib.Core.Bool.{Bool, true, false, cond}
-use mathlib.Core.List.{List}
 use Prim.Native.Nat.{ℕ, _+_, _-_, _^_, _≤_, _<_}
 use native.Mathlib.Omega.{arith}
 use lib.Dec.{eqb, ltb}
 use lib.ListN.{length}
 use Rattle.std.specs.declared.option.Option.{Option}
-use Rattle.std.specs.declared.option.Option.the-variants.{Some, None}
-use Rattle.std.proofs.shelf.Tests.{ltb-true, ltb-false, lt-ltb, le-ltb, cond-true, cond-false, cases-lt, eqb-true, eqb-false}
+use Rattle.std.specs.declared.option.Option.the-variants.{Some}
+use Rattle.std.proofs.shelf.Tests.{lt-ltb, le-ltb, cond-true, cond-false, cases-lt, eqb-true, eqb-false}
 use Rattle.object.specs.Formats.{is-folder, format-number}
 use Rattle.object.specs.declared.format.Format.{Format}
 use Rattle.object.specs.declared.format.Format.the-variants.{Undefined, Association, Text}
 use Rattle.store.specs.Contents.{File, Contents, lookup}
-use Rattle.store.specs.Sound.{Sound, last-number, max-length}
-use Rattle.wire.specs.declared.info.ObjectInfo.{ObjectInfo}
-use Rattle.protocol.specs.Storages.{Storages, Sound-storages, first-storage, second-storage, second-base, storage-of, number-of, object-at}
+use Rattle.store.specs.Sound.{Sound, max-length}
+use Rattle.protocol.specs.Storages.{Storages, Sound-storages, first-storage, second-storage, second-base, storage-of, object-at}
 use Rattle.protocol.specs.Looking.{parent-handle, info-of}
-use Rattle.protocol.specs.Objects.{Handle, Holds, Object}
+use Rattle.protocol.specs.Objects.{Object}
 use Rattle.protocol.specs.ReadBack.{Parent-told, Tells-of}
 use Rattle.protocol.proofs.Reading.{Info-fits}
 

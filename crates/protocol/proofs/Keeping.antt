@@ -20,9 +20,8 @@ use Rattle.store.specs.Laws.{Differs-at}
 use Rattle.store.proofs.Kept.{changes-keep}
 use Rattle.wire.specs.declared.command.Command.{Command}
 use Rattle.wire.specs.Containers.{payload-in}
-use Rattle.wire.specs.Operations.{open-session, close-session, get-device-info, get-object, get-partial-object, delete-object, send-object-info, send-object}
+use Rattle.wire.specs.Operations.{open-session, get-device-info, get-object, get-partial-object, delete-object, send-object-info, send-object}
 use Rattle.protocol.specs.declared.fault.OperationFault.{OperationFault}
-use Rattle.protocol.specs.declared.session.Announcement.{Announcement}
 use Rattle.protocol.specs.declared.session.OpenSession.{OpenSession}
 use Rattle.protocol.specs.declared.session.Session.{Session}
 use Rattle.protocol.specs.declared.session.Session.the-variants.{Closed, Open}
@@ -34,8 +33,8 @@ use Rattle.protocol.specs.Storages.{Storages, Sound-storages, second-base, obj
 use Rattle.protocol.specs.Looking.{Shown}
 use Rattle.protocol.specs.Acting.{given-next, at-rest, file-of}
 use Rattle.protocol.specs.Invariant.{Open-fits, State-fits}
-use Rattle.protocol.specs.Machine.{State, Reply, Answer, Call, answer, cancel, unplug, Event, answers, cancels, unplugs, event, history, moved, with-first, refused, acted, next-state, state-after, fresh, answered, cancelled}
-use Rattle.protocol.specs.Keeping.{Binding, bound-on, bound-at-opening, Seen, at-opening, handle-given, binds, seen-by, seen-with, seen, Bound, Unbound, Once, Not-among, Justified, Fair, Opens, Ends, Unended, Bytes-kept, Handles-keep-bytes}
+use Rattle.protocol.specs.Machine.{State, Reply, Answer, Call, answer, cancel, unplug, Event, answers, event, history, moved, with-first, refused, acted, next-state, state-after, fresh, answered}
+use Rattle.protocol.specs.Keeping.{Binding, bound-on, bound-at-opening, Seen, at-opening, handle-given, binds, seen-by, seen-with, seen, Bound, Unbound, Once, Justified, Fair, Ends, Unended, Handles-keep-bytes}
 use Rattle.protocol.proofs.Ways.{apart, fault-not-ok}
 use Rattle.protocol.proofs.Effects.{acceptance, opened, handles-told, Gives, a-folder, a-file, Brings}
 use Rattle.protocol.proofs.Steps as steps

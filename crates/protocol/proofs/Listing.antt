@@ -7,14 +7,13 @@ use Prim.Native.Nat.{ℕ, _+_, _-_, _≤_, _<_}
 use native.Mathlib.Nat.{zero-add}
 use native.Mathlib.Omega.{arith}
 use lib.Dec.{eqb, ltb}
-use Rattle.std.specs.declared.option.Option.the-variants.{Some, None}
+use Rattle.std.specs.declared.option.Option.the-variants.{Some}
 use Rattle.std.specs.declared.result.Result.the-variants.{Ok}
-use Rattle.std.specs.shelf.Lists.{All}
-use Rattle.std.proofs.shelf.Tests.{and-parts, or-cases, or-left, or-right, eqb-true, eqb-false, eq-eqb, lt-ltb, le-ltb, ltb-true, ltb-false, cases-eq, cases-lt, cases-bool, cond-true, cond-false, both-ways}
+use Rattle.std.proofs.shelf.Tests.{and-parts, or-cases, or-left, or-right, eqb-true, eqb-false, eq-eqb, lt-ltb, le-ltb, ltb-false, cases-eq, cond-true, cond-false, both-ways}
 use Rattle.bytes.proofs.Cutting.{none-some, some-same}
 use Rattle.object.specs.Formats.{is-folder}
-use Rattle.store.specs.Contents.{File, Entry, Contents, lookup}
-use Rattle.store.specs.Sound.{Sound, Ascending, last-number}
+use Rattle.store.specs.Contents.{File, Entry, lookup}
+use Rattle.store.specs.Sound.{Ascending}
 use Rattle.store.proofs.Checks.{Either-way, checked, given-ok}
 use Rattle.store.proofs.Lookups.{lookup-here, lookup-past, found-above}
 use Rattle.wire.specs.declared.command.Command.{Command}

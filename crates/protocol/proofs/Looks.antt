@@ -1,7 +1,7 @@
 -- One law for each operation that looks: what it shows when it is accepted.
-use mathlib.Core.Path.{_≡_, refl, sym, ap, subst, _∙_}
-use mathlib.Core.Bool.{Bool, true, false, not}
-use mathlib.Core.List.{List, [], _∷_}
+use mathlib.Core.Path.{_≡_, refl}
+use mathlib.Core.Bool.{false, not}
+use mathlib.Core.List.{[], _∷_}
 use Prim.Native.Nat.{ℕ, _≤_}
 use lib.Dec.{leb}
 use lib.ListN.{length}
@@ -10,7 +10,7 @@ use Rattle.std.specs.declared.result.Result.the-variants.{Ok}
 use Rattle.std.proofs.shelf.Tests.{not-true, leb-true}
 use Rattle.object.specs.Formats.{is-folder}
 use Rattle.store.specs.Contents.{File}
-use Rattle.store.proofs.Checks.{Either-way, checked, given-ok}
+use Rattle.store.proofs.Checks.{checked, given-ok}
 use Rattle.wire.specs.ObjectInfos.{object-info}
 use Rattle.protocol.specs.declared.fault.OperationFault.{OperationFault}
 use Rattle.protocol.specs.declared.fault.OperationFault.the-variants.{InvalidHandle, InvalidParameter}

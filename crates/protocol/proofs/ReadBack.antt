@@ -1,10 +1,9 @@
 -- What GetObjectInfo sends is read back, in every list of calls.
-use mathlib.Core.Path.{_≡_, refl, sym, ap, subst, _∙_}
+use mathlib.Core.Path.{_≡_, refl, ap, _∙_}
 use mathlib.Core.List.{List}
 use Prim.Native.Nat.{ℕ}
-use Rattle.std.specs.declared.option.Option.the-variants.{Some}
 use Rattle.wire.specs.declared.command.Command.{Command}
-use Rattle.wire.specs.ObjectInfos.{object-info, object-info-in}
+use Rattle.wire.specs.ObjectInfos.{object-info-in}
 use Rattle.wire.specs.Operations.{get-device-info, open-session, close-session, delete-object, get-object-info, send-object-info, send-object}
 use Rattle.protocol.specs.declared.session.OpenSession.{OpenSession}
 use Rattle.protocol.specs.declared.session.Session.{Session}
@@ -14,7 +13,7 @@ use Rattle.protocol.specs.Commands.{parameter}
 use Rattle.protocol.specs.Storages.{Storages, Sound-storages}
 use Rattle.protocol.specs.Looking.{Shown, info-of}
 use Rattle.protocol.specs.Invariant.{State-fits}
-use Rattle.protocol.specs.Machine.{State, Answer, Call, answered, state-after, fresh, data-of}
+use Rattle.protocol.specs.Machine.{Answer, answered, state-after, fresh}
 use Rattle.protocol.specs.ReadBack.{Reads-back, Infos-read-back}
 use Rattle.protocol.proofs.Ways.{apart, fault-not-ok}
 use Rattle.protocol.proofs.Steps as steps

@@ -1,11 +1,11 @@
 -- An ObjectInfo is read back as the record that it was written from.
-use mathlib.Core.Path.{_≡_, refl, sym, ap, subst, _∙_}
-use mathlib.Core.Bool.{Bool, true, false, cond, _&&_}
+use mathlib.Core.Path.{_≡_, refl, ap, _∙_}
+use mathlib.Core.Bool.{true, cond}
 use mathlib.Core.List.{List, [], _∷_, _++_, append-assoc}
 use Prim.Native.Nat.{ℕ, suc, _+_, _*_, _/_, _%_, _^_, _≤_, _<_}
 use native.Mathlib.Omega.{arith}
 use lib.Dec.{eqb, ltb, leb}
-use lib.ListN.{length, drop}
+use lib.ListN.{length}
 use Rattle.std.specs.declared.option.Option.{Option}
 use Rattle.std.specs.declared.option.Option.the-variants.{Some, None}
 use Rattle.std.proofs.shelf.Tests.{and-parts, leb-true, ltb-true, le-leb, ne-eqb, cond-true, cond-false, both-ways}
@@ -19,7 +19,6 @@ use Rattle.object.specs.declared.protection.Protection.{Protection}
 use Rattle.object.specs.declared.protection.Protection.the-variants.{Unprotected, ReadOnly}
 use Rattle.object.proofs.Stored.{Made, legal, illegal, made, same-name, units-legal}
 use Rattle.wire.specs.declared.info.ObjectInfo.{ObjectInfo}
-use Rattle.wire.specs.Containers.{number-at}
 use Rattle.wire.specs.Strings.{string, Read, with-unit, closed-units, string-in}
 use Rattle.wire.specs.ObjectInfos.{object-info, object-info-in, info-named, info-from}
 

@@ -1,30 +1,29 @@
 -- What a refusal and a cancel leave, in every list of calls.
 use mathlib.Core.Path.{_≡_, refl, sym, ap, subst, _∙_}
 use mathlib.Core.Logic.{_⊎_, inl, inr}
-use mathlib.Core.Bool.{Bool, true, false, cond}
-use mathlib.Core.List.{List, [], _∷_}
-use Prim.Native.Nat.{ℕ, suc}
+use mathlib.Core.List.{List}
+use Prim.Native.Nat.{ℕ}
 use native.Mathlib.Omega.{arith}
 use lib.Dec.{eqb}
 use Rattle.std.proofs.shelf.Tests.{cases-eq, eq-eqb, ne-eqb, cond-true, cond-false}
 use Rattle.wire.specs.declared.command.Command.{Command}
-use Rattle.wire.specs.Operations.{open-session, close-session, get-device-info, delete-object, send-object-info, send-object}
+use Rattle.wire.specs.Operations.{open-session, send-object-info, send-object}
 use Rattle.protocol.specs.declared.fault.OperationFault.{OperationFault}
-use Rattle.protocol.specs.declared.fault.OperationFault.the-variants.{InvalidTransaction, OperationNotSupported, ParameterNotSupported, NoObjectInfo, SessionAlreadyOpen, TransactionCancelled}
+use Rattle.protocol.specs.declared.fault.OperationFault.the-variants.{InvalidTransaction, OperationNotSupported, TransactionCancelled}
 use Rattle.protocol.specs.declared.session.OpenSession.{OpenSession}
 use Rattle.protocol.specs.declared.session.Session.{Session}
 use Rattle.protocol.specs.declared.session.Session.the-variants.{Closed, Open}
-use Rattle.protocol.specs.Faults.{ok, operation-fault-number, parameters-of}
-use Rattle.protocol.specs.Storages.{Storages, Sound-storages}
+use Rattle.protocol.specs.Faults.{ok, operation-fault-number}
+use Rattle.protocol.specs.Storages.{Storages}
 use Rattle.protocol.specs.Objects.{In}
 use Rattle.protocol.specs.Acting.{given-next, at-rest}
 use Rattle.protocol.specs.Invariant.{State-fits}
-use Rattle.protocol.specs.Machine.{State, Reply, Answer, Call, after, moved, refused, answered, cancelled, state-after, fresh}
-use Rattle.protocol.specs.Refusals.{Follows, Turned, Past-announcement, Left-open, Spared-open, Stays, Only-id, Quiet, In-session, Refusal, Cancel, Refusals-leave, Same-transaction, info-answers, Infos-answered}
+use Rattle.protocol.specs.Machine.{Reply, Answer, after, moved, refused, answered, state-after, fresh}
+use Rattle.protocol.specs.Refusals.{Follows, Turned, Past-announcement, Spared-open, Quiet, In-session, Refusal, Cancel, Refusals-leave, Same-transaction, info-answers, Infos-answered}
 use Rattle.protocol.proofs.Ways.{apart, fault-not-ok}
-use Rattle.protocol.proofs.Effects.{Plain, Later, Info-fault, no-storage, read-only, incomplete, bad-dataset, bad-format, bad-parent, too-large, full}
+use Rattle.protocol.proofs.Effects.{Plain, Info-fault, no-storage, read-only, incomplete, bad-dataset, bad-format, bad-parent, too-large, full}
 use Rattle.protocol.proofs.Steps as steps
-use Rattle.protocol.proofs.Steps.{Timely, Stopped, held, untimely, unknown, Early, Went, Went-closed, Spared, open-went, closed-went, cancel-went, unknown-send, unknown-info, told-no-info}
+use Rattle.protocol.proofs.Steps.{Timely, Stopped, held, untimely, unknown, Early, Went, Went-closed, Spared, open-went, closed-went, cancel-went, unknown-send, unknown-info}
 use Rattle.protocol.proofs.Staying.{reached}
 
 follows-after : (t : ℕ) → Follows t (after t)

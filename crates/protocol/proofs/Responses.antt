@@ -1,15 +1,14 @@
 -- Responses are read back, and every reply fits its response.
 use mathlib.Core.Path.{_≡_, refl, sym, ap, subst, _∙_}
 use mathlib.Core.Logic.{_⊎_, inl, inr}
-use mathlib.Core.Bool.{Bool, true, false, cond, _&&_}
+use mathlib.Core.Bool.{Bool, true, false, cond}
 use mathlib.Core.List.{List, [], _∷_, _++_}
-use Prim.Native.Nat.{ℕ, zero, suc, min, _+_, _*_, _-_, _/_, _%_, _^_, _≤_, _<_}
+use Prim.Native.Nat.{ℕ, zero, suc, _+_, _*_, _-_, _/_, _%_, _^_, _≤_, _<_}
 use native.Mathlib.Nat.{min-le-right}
 use native.Mathlib.Omega.{arith}
 use lib.Dec.{eqb, leb}
 use lib.ListN.{length, take, drop, getD}
-use Rattle.std.specs.declared.option.Option.{Option}
-use Rattle.std.specs.declared.option.Option.the-variants.{Some, None}
+use Rattle.std.specs.declared.option.Option.the-variants.{Some}
 use Rattle.std.specs.shelf.Lists.{All}
 use Rattle.std.proofs.shelf.Elements.{all-getD, all-take, all-drop}
 use Rattle.std.proofs.shelf.Lists.{length-take, length-drop, length-take-le, take-append-drop, drop-drop, nil-from-length}
@@ -17,7 +16,6 @@ use Rattle.std.proofs.shelf.Tests.{and-from, and-parts, leb-true, le-leb, eqb-t
 use Rattle.bytes.specs.Numbers.{Bytes, le, value}
 use Rattle.bytes.proofs.LittleEndian.{value-le, le-value}
 use Rattle.bytes.proofs.Cutting.{some-same, through}
-use Rattle.store.specs.Contents.{File}
 use Rattle.wire.specs.declared.command.Command.{Command}
 use Rattle.wire.specs.Containers.{numbers, container, number-at, is-container, response-type, response}
 use Rattle.wire.specs.Operations.{get-partial-object}
@@ -40,7 +38,7 @@ use Rattle.protocol.proofs.Steps as steps
 use Rattle.protocol.proofs.Steps.{Stopped, held, untimely, unknown, Told, telling, Went, Went-closed, Spared, open-went, closed-went, cancel-went, told-part}
 use Rattle.protocol.proofs.Looks.{part-look}
 use Rattle.protocol.proofs.Found.{fine-at}
-use Rattle.protocol.proofs.Staying.{Leads, call-leads}
+use Rattle.protocol.proofs.Staying.{call-leads}
 
 -- the reader
 length-numbers : (ps : List ℕ) → length (numbers 4 ps) ≡ 4 * length ps

@@ -1,9 +1,8 @@
 -- Every call keeps the stores sound and the session fit.
 use mathlib.Core.Path.{_≡_, refl, sym, ap, subst, _∙_}
 use mathlib.Core.Logic.{_⊎_, inl, inr}
-use mathlib.Core.Bool.{Bool, true, false, cond}
 use mathlib.Core.List.{List, [], _∷_}
-use Prim.Native.Nat.{ℕ, suc, _+_, _≤_, _<_}
+use Prim.Native.Nat.{ℕ, suc, _≤_, _<_}
 use native.Mathlib.Omega.{arith}
 use lib.ListN.{length}
 use Rattle.std.specs.declared.option.Option.{Option}
@@ -13,8 +12,8 @@ use Rattle.std.proofs.shelf.Tests.{cases-eq}
 use Rattle.bytes.proofs.Cutting.{none-some}
 use Rattle.store.specs.Contents.{File, Contents, total, lookup}
 use Rattle.store.specs.Sound.{Sound, last-number}
-use Rattle.store.specs.Changes.{added, removed, adding, removing, without, past-last}
-use Rattle.store.specs.Laws.{Below, Differs-at, Just-past}
+use Rattle.store.specs.Changes.{removed, adding, removing, past-last}
+use Rattle.store.specs.Laws.{Below, Differs-at}
 use Rattle.store.proofs.Kept.{changes-keep, removed-ok}
 use Rattle.store.proofs.Lookups.{sizes-without}
 use Rattle.store.proofs.Told.{past-is}
@@ -30,9 +29,9 @@ use Rattle.protocol.specs.Commands.{parameter}
 use Rattle.protocol.specs.Storages.{Storages, Sound-storages}
 use Rattle.protocol.specs.Acting.{given-next, at-rest, file-of}
 use Rattle.protocol.specs.Invariant.{Stands, Transfer-fits, Open-fits, Session-fits, State-fits, Sessions-fit}
-use Rattle.protocol.specs.Machine.{State, Answer, Call, answer, cancel, unplug, moved, with-first, next-state, state-after, fresh, answered, cancelled, unplugged}
+use Rattle.protocol.specs.Machine.{State, Answer, Call, answer, cancel, unplug, moved, with-first, next-state, state-after, fresh, unplugged}
 use Rattle.protocol.specs.Staying.{Kept, Stores-kept, One-number, One-at-a-time}
-use Rattle.protocol.proofs.Effects.{opened, Deletes, Gives, a-folder, a-file, Brings}
+use Rattle.protocol.proofs.Effects.{opened, Gives, a-folder, a-file, Brings}
 use Rattle.protocol.proofs.Steps as steps
 use Rattle.protocol.proofs.Steps.{Stopped, held, untimely, unknown, Went, Went-closed, Spared, fits-moved, open-went, closed-went, cancel-went}
 

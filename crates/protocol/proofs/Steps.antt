@@ -3,9 +3,9 @@ use mathlib.Core.Path.{_≡_, refl, sym, ap, subst, _∙_}
 use mathlib.Core.Logic.{_⊎_, inl, inr}
 use mathlib.Core.Bool.{Bool, true, false, cond, not, _&&_, _||_}
 use mathlib.Core.List.{List, [], _∷_}
-use Prim.Native.Nat.{ℕ, suc, _+_, _≤_, _<_}
+use Prim.Native.Nat.{ℕ, suc, _≤_}
 use native.Mathlib.Omega.{arith}
-use lib.Dec.{eqb, leb, ltb}
+use lib.Dec.{eqb, leb}
 use lib.ListN.{length}
 use Rattle.std.specs.declared.option.Option.{Option}
 use Rattle.std.specs.declared.option.Option.the-variants.{Some, None}
@@ -13,9 +13,9 @@ use Rattle.std.specs.declared.result.Result.{Result}
 use Rattle.std.specs.declared.result.Result.the-variants.{Ok, Err}
 use Rattle.std.specs.shelf.Lists.{All}
 use Rattle.std.proofs.shelf.Tests.{eqb-true, eqb-false, or-cases, cond-both}
-use Rattle.bytes.proofs.Cutting.{none-some, some-same}
+use Rattle.bytes.proofs.Cutting.{none-some}
 use Rattle.object.specs.Formats.{is-folder}
-use Rattle.store.specs.Contents.{File, Contents}
+use Rattle.store.specs.Contents.{Contents}
 use Rattle.store.specs.Sound.{last-number}
 use Rattle.store.proofs.Checks.{Either-way, checked}
 use Rattle.wire.specs.declared.command.Command.{Command}
@@ -28,15 +28,15 @@ use Rattle.protocol.specs.declared.session.OpenSession.{OpenSession}
 use Rattle.protocol.specs.declared.session.Session.{Session}
 use Rattle.protocol.specs.declared.session.Session.the-variants.{Closed, Open}
 use Rattle.protocol.specs.declared.session.Transfer.{Transfer}
-use Rattle.protocol.specs.Faults.{ok, operation-fault-number, parameters-of}
+use Rattle.protocol.specs.Faults.{ok}
 use Rattle.protocol.specs.Commands.{parameter}
 use Rattle.protocol.specs.Storages.{Storages, first-storage, every-storage, root, is-storage, storage-of, object-at}
-use Rattle.protocol.specs.Looking.{Shown, device-shown, storages-shown, storage-shown, handles-shown, children-shown, names, info-shown, object-shown, part-shown}
-use Rattle.protocol.specs.Acting.{Outcome, session-opened, given-next, at-rest}
+use Rattle.protocol.specs.Looking.{Shown, device-shown, storage-shown, handles-shown, names, info-shown, object-shown, part-shown}
+use Rattle.protocol.specs.Acting.{Outcome, given-next, at-rest}
 use Rattle.protocol.specs.Invariant.{Open-fits}
-use Rattle.protocol.specs.Machine.{State, Reply, Answer, Task, looks, acts, Row, tasks, task-in, task-of, moved, Gate, stops, passes-closed, passes-open, known-open, known-closed, for-closed, gate, has-surplus, refused, data-of, looked, acted, performed, performed-closed, served, spared, answered, cancelled}
+use Rattle.protocol.specs.Machine.{Answer, Task, looks, acts, Row, tasks, task-in, task-of, moved, Gate, stops, passes-open, known-open, known-closed, for-closed, gate, has-surplus, refused, data-of, looked, acted, performed, performed-closed, served, spared, answered, cancelled}
 use Rattle.protocol.proofs.Ways.{present-ways, cond-ways, apart}
-use Rattle.protocol.proofs.Effects.{acceptance, refusal, opened, Plain, Later, Info-fault, info-plain, handles-told, Deletes, Gives, Brings, open-law, close-law, delete-law, info-law, send-law}
+use Rattle.protocol.proofs.Effects.{acceptance, opened, Plain, Later, Info-fault, info-plain, handles-told, Deletes, Gives, Brings, open-law, close-law, delete-law, info-law, send-law}
 
 -- a command that an open session lets through
 pub record Timely (s : OpenSession) (c : Command) : Type 0 where

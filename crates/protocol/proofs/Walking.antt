@@ -1,16 +1,13 @@
 -- Listings by the next-file question.
 use mathlib.Core.Path.{_≡_, refl, sym, ap, subst, _∙_}
-use mathlib.Core.Logic.{_⊎_, inl, inr}
 use mathlib.Core.Bool.{Bool, true, false, cond}
 use mathlib.Core.List.{List, [], _∷_, map}
-use Prim.Native.Nat.{ℕ, _+_, _≤_, _<_}
+use Prim.Native.Nat.{ℕ, _+_, _≤_}
 use native.Mathlib.Omega.{arith}
-use Rattle.std.specs.declared.option.Option.{Option}
-use Rattle.std.specs.declared.option.Option.the-variants.{Some, None}
 use Rattle.std.specs.shelf.Lists.{kept-by}
 use Rattle.bytes.proofs.Cutting.{none-some, some-same}
-use Rattle.store.specs.Contents.{File, Entry, Contents, lookup, next-above}
-use Rattle.store.specs.Sound.{Sound, Ascending}
+use Rattle.store.specs.Contents.{File, Entry, lookup}
+use Rattle.store.specs.Sound.{Ascending}
 use Rattle.store.specs.Laws.{Walk}
 use Rattle.store.proofs.Lookups.{lookup-here, lookup-past}
 use Rattle.store.proofs.Told.{numbers-walked}

@@ -22,7 +22,7 @@ use Rattle.protocol.specs.declared.session.Transfer.the-variants.{Idle, Announ
 use Rattle.protocol.specs.Faults.{ok}
 use Rattle.protocol.specs.Commands.{parameter}
 use Rattle.protocol.specs.Storages.{Storages, Sound-storages}
-use Rattle.protocol.specs.Machine.{State, Reply, Answer, Call, answered, state-after, fresh}
+use Rattle.protocol.specs.Machine.{State, Answer, Call, answered, state-after, fresh}
 
 -- a parent parameter that means the root
 abbrev pub Means-root : ℕ → Type 0

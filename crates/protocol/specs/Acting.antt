@@ -9,7 +9,6 @@ use Rattle.std.specs.declared.option.Option.the-variants.{Some, None}
 use Rattle.std.specs.declared.result.Result.{Result}
 use Rattle.std.specs.declared.result.Result.the-variants.{Ok, Err}
 use Rattle.object.specs.Formats.{format-of, is-folder}
-use Rattle.object.specs.declared.format.Format.{Format}
 use Rattle.object.specs.declared.protection.Protection.{Protection}
 use Rattle.object.specs.declared.protection.Protection.the-variants.{Unprotected, ReadOnly}
 use Rattle.store.specs.Checks.{provided}

@@ -1,7 +1,7 @@
 -- Replies tell the contents, and nothing else.
 use mathlib.Core.Path.{_≡_}
-use mathlib.Core.List.{List, []}
-use Prim.Native.Nat.{ℕ, _<_, _^_}
+use mathlib.Core.List.{List}
+use Prim.Native.Nat.{_<_, _^_}
 use lib.ListN.{length}
 use Rattle.std.specs.shelf.Lists.{All}
 use Rattle.bytes.specs.Numbers.{Bytes}

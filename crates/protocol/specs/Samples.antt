@@ -2,7 +2,7 @@
 use mathlib.Core.Path.{_≡_, refl}
 use mathlib.Core.Bool.{Bool, true, false, not}
 use mathlib.Core.List.{List, [], _∷_, _++_, map}
-use Prim.Native.Nat.{ℕ, _+_, _<_}
+use Prim.Native.Nat.{ℕ, _+_}
 use lib.Dec.{eqb}
 use lib.ListN.{replicate, take}
 use Rattle.std.specs.declared.option.Option.{Option}
@@ -17,14 +17,13 @@ use Rattle.object.specs.declared.format.Format.the-variants.{Undefined, Associa
 use Rattle.object.specs.declared.name.Name.{Name}
 use Rattle.object.specs.declared.protection.Protection.{Protection}
 use Rattle.object.specs.declared.protection.Protection.the-variants.{Unprotected, ReadOnly}
-use Rattle.store.specs.Contents.{File, Entry, Contents}
+use Rattle.store.specs.Contents.{Entry, Contents}
 use Rattle.wire.specs.declared.command.Command.{Command}
 use Rattle.wire.specs.Containers.{container, command-type, data-type, response}
 use Rattle.wire.specs.DeviceInfos.{device-info}
 use Rattle.wire.specs.Operations.{get-device-info, open-session, close-session, get-storage-ids, get-storage-info, get-object-handles, get-object-info, get-object, delete-object, send-object-info, send-object, get-partial-object, operation-codes}
 use Rattle.wire.specs.Strings.{string}
-use Rattle.protocol.specs.declared.session.Session.{Session}
-use Rattle.protocol.specs.declared.session.Session.the-variants.{Closed, Open}
+use Rattle.protocol.specs.declared.session.Session.the-variants.{Open}
 use Rattle.protocol.specs.declared.session.Transfer.the-variants.{Idle}
 use Rattle.protocol.specs.Storages.{Storages, Sound-storages}
 use Rattle.protocol.specs.Machine.{State, Reply, Call, answer, cancel, unplug, replies, fresh, Row, tasks}

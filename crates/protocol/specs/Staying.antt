@@ -7,7 +7,7 @@ use Rattle.std.specs.declared.option.Option.{Option}
 use Rattle.store.specs.Contents.{File, Contents}
 use Rattle.store.specs.Laws.{Differs-at}
 use Rattle.protocol.specs.Storages.{Storages, Sound-storages}
-use Rattle.protocol.specs.Machine.{State, Call, next-state, state-after, fresh}
+use Rattle.protocol.specs.Machine.{Call, next-state, state-after, fresh}
 
 -- both stores are sound, and the second store, the lock, the capacity and the limit are as before
 pub record Kept (before later : Storages) : Type 0 where

@@ -2,22 +2,22 @@
 use mathlib.Core.Path.{_≡_, refl, sym, ap, subst, _∙_}
 use mathlib.Core.Logic.{_⊎_, inl, inr}
 use mathlib.Core.Bool.{Bool, true, false, not, _&&_, _||_}
-use mathlib.Core.List.{List, [], _∷_}
-use Prim.Native.Nat.{ℕ, suc, _+_, _≤_, _<_}
+use mathlib.Core.List.{List}
+use Prim.Native.Nat.{ℕ, _+_, _≤_, _<_}
 use native.Mathlib.Omega.{arith}
 use lib.Dec.{eqb, ltb, leb}
 use lib.ListN.{length}
 use Rattle.std.specs.declared.option.Option.{Option}
 use Rattle.std.specs.declared.option.Option.the-variants.{Some, None}
-use Rattle.std.specs.declared.result.Result.the-variants.{Ok, Err}
+use Rattle.std.specs.declared.result.Result.the-variants.{Ok}
 use Rattle.std.proofs.shelf.Tests.{eqb-true, eq-eqb, ltb-true, leb-true, le-leb, lt-ltb, and-parts, and-from, or-cases, or-left, or-right, not-true, not-from-false, cases-eq, cases-bool, both-ways, false≢true}
 use Rattle.bytes.proofs.Cutting.{none-some, some-same}
 use Rattle.object.specs.Formats.{is-folder}
 use Rattle.store.specs.declared.fault.StoreFault.{StoreFault}
 use Rattle.store.specs.declared.fault.StoreFault.the-variants.{ReadOnly, InvalidDataset, NumberTaken, InvalidParent, Full, Absent, HasChildren}
 use Rattle.store.specs.Contents.{File, Entry, Contents, total, lookup}
-use Rattle.store.specs.Sound.{Sound, Ascending, Each-file, is-parent, folder-there, last-number, max-length}
-use Rattle.store.specs.Changes.{Change, adding, removing, changed, added, removed, inserted, without, with-files, is-absent, has-children, is-number, legal-length, has-room}
+use Rattle.store.specs.Sound.{Sound, Each-file, is-parent, folder-there, last-number, max-length}
+use Rattle.store.specs.Changes.{adding, removing, added, removed, inserted, without, with-files, is-absent, has-children, is-number, legal-length, has-room}
 use Rattle.store.specs.Laws.{Differs-at, Changes-keep, Addable, Additions-accepted}
 use Rattle.store.proofs.Checks.{Either-way, checked, given-ok, provided-true}
 use Rattle.store.proofs.Lookups.{find-added, find-other, find-removed, find-kept, ascending-inserted, ascending-without, length-inserted, total-inserted, sizes-without, childless}

@@ -10,7 +10,7 @@ use Rattle.std.specs.declared.option.Option.the-variants.{Some, None}
 use Rattle.std.specs.declared.result.Result.the-variants.{Ok}
 use Rattle.object.specs.Formats.{is-folder}
 use Rattle.store.specs.Contents.{File, Entry, Contents, total, lookup, next-above}
-use Rattle.store.specs.Sound.{Sound, Ascending, Each-file, folder-there, last-number, max-length}
+use Rattle.store.specs.Sound.{Sound, Each-file, folder-there, last-number, max-length}
 use Rattle.store.specs.Changes.{Change, adding, removing, changed, added, past-last}
 
 -- each number of the map is below b
