@@ -1,2 +1,4 @@
 pub mod Signs
 pub mod Texts
+pub mod Words
+pub mod Listed
