@@ -16,8 +16,29 @@ use build::push_file;
 
 /// File 3, a text with the name A and the bytes "hi".
 const SAMPLE: [u8; 23] = [
-    0x01, 0x0a, 0x00, 0x03, 0x00, 0x00, 0x00, 0x00, 0x00, 0x00, 0x00, 0x04, 0x30, 0x02, 0x02, 0x00,
-    0x41, 0x00, 0x03, 0x02, 0x00, 0x68, 0x69,
+    0x01,
+    0x0a,
+    0x00,
+    0x03,
+    0x00,
+    0x00,
+    0x00,
+    0x00,
+    0x00,
+    0x00,
+    0x00,
+    0x04,
+    0x30,
+    0x02,
+    0x02,
+    0x00,
+    0x41,
+    0x00,
+    0x03,
+    0x02,
+    0x00,
+    0x68,
+    0x69,
 ];
 
 /// The place of the first wrong field, or `None` if the image is accepted.
@@ -87,38 +108,142 @@ struct Spoiling {
 /// Folder 2 "F" at byte 0, file 4 "A" of it with two bytes at byte 21, and file 5 "B" at the root at byte 44.
 const SPOILINGS: [Spoiling; 26] = [
     // tags, of the first file and of the last
-    Spoiling { at: 0, byte: 2, place: 0 },
-    Spoiling { at: 13, byte: 1, place: 13 },
-    Spoiling { at: 18, byte: 4, place: 18 },
-    Spoiling { at: 44, byte: 0, place: 44 },
-    Spoiling { at: 57, byte: 3, place: 57 },
-    Spoiling { at: 62, byte: 2, place: 62 },
+    Spoiling {
+        at: 0,
+        byte: 2,
+        place: 0,
+    },
+    Spoiling {
+        at: 13,
+        byte: 1,
+        place: 13,
+    },
+    Spoiling {
+        at: 18,
+        byte: 4,
+        place: 18,
+    },
+    Spoiling {
+        at: 44,
+        byte: 0,
+        place: 44,
+    },
+    Spoiling {
+        at: 57,
+        byte: 3,
+        place: 57,
+    },
+    Spoiling {
+        at: 62,
+        byte: 2,
+        place: 62,
+    },
     // the first field's length
-    Spoiling { at: 22, byte: 9, place: 21 },
-    Spoiling { at: 22, byte: 11, place: 21 },
-    Spoiling { at: 23, byte: 1, place: 21 },
+    Spoiling {
+        at: 22,
+        byte: 9,
+        place: 21,
+    },
+    Spoiling {
+        at: 22,
+        byte: 11,
+        place: 21,
+    },
+    Spoiling {
+        at: 23,
+        byte: 1,
+        place: 21,
+    },
     // numbers: 0, equal to the one before, smaller, too large
-    Spoiling { at: 3, byte: 0, place: 0 },
-    Spoiling { at: 24, byte: 2, place: 21 },
-    Spoiling { at: 24, byte: 1, place: 21 },
-    Spoiling { at: 27, byte: 0x80, place: 21 },
+    Spoiling {
+        at: 3,
+        byte: 0,
+        place: 0,
+    },
+    Spoiling {
+        at: 24,
+        byte: 2,
+        place: 21,
+    },
+    Spoiling {
+        at: 24,
+        byte: 1,
+        place: 21,
+    },
+    Spoiling {
+        at: 27,
+        byte: 0x80,
+        place: 21,
+    },
     // formats
-    Spoiling { at: 32, byte: 1, place: 39 },
-    Spoiling { at: 32, byte: 2, place: 21 },
+    Spoiling {
+        at: 32,
+        byte: 1,
+        place: 39,
+    },
+    Spoiling {
+        at: 32,
+        byte: 2,
+        place: 21,
+    },
     // parents: absent, no folder, the file itself, a later one
-    Spoiling { at: 28, byte: 1, place: 21 },
-    Spoiling { at: 51, byte: 4, place: 44 },
-    Spoiling { at: 28, byte: 4, place: 21 },
-    Spoiling { at: 28, byte: 5, place: 21 },
+    Spoiling {
+        at: 28,
+        byte: 1,
+        place: 21,
+    },
+    Spoiling {
+        at: 51,
+        byte: 4,
+        place: 44,
+    },
+    Spoiling {
+        at: 28,
+        byte: 4,
+        place: 21,
+    },
+    Spoiling {
+        at: 28,
+        byte: 5,
+        place: 21,
+    },
     // names: empty, of an odd length, of an illegal unit
-    Spoiling { at: 35, byte: 0, place: 34 },
-    Spoiling { at: 35, byte: 1, place: 34 },
-    Spoiling { at: 37, byte: 0x1f, place: 34 },
-    Spoiling { at: 37, byte: 0x2f, place: 34 },
-    Spoiling { at: 37, byte: 0x3a, place: 34 },
-    Spoiling { at: 37, byte: 0x5c, place: 34 },
+    Spoiling {
+        at: 35,
+        byte: 0,
+        place: 34,
+    },
+    Spoiling {
+        at: 35,
+        byte: 1,
+        place: 34,
+    },
+    Spoiling {
+        at: 37,
+        byte: 0x1f,
+        place: 34,
+    },
+    Spoiling {
+        at: 37,
+        byte: 0x2f,
+        place: 34,
+    },
+    Spoiling {
+        at: 37,
+        byte: 0x3a,
+        place: 34,
+    },
+    Spoiling {
+        at: 37,
+        byte: 0x5c,
+        place: 34,
+    },
     // a folder with a byte
-    Spoiling { at: 19, byte: 1, place: 18 },
+    Spoiling {
+        at: 19,
+        byte: 1,
+        place: 18,
+    },
 ];
 
 /// The image that the table above spoils.
@@ -142,8 +267,9 @@ fn one_wrong_byte_is_found(rt: LibcRuntime) -> Result<(), Fail> {
             return Err(Fail::new("the table goes past the image"));
         };
         *cell = byte;
-        check_eq(place(image.as_slice()), Some(spoiling.place))
-            .note(format_args!("byte {at} set to {byte}"))?;
+        check_eq(place(image.as_slice()), Some(spoiling.place)).note(format_args!(
+            "byte {at} set to {byte}"
+        ))?;
     }
     Ok(())
 }

@@ -2,3 +2,4 @@ pub mod Signs
 pub mod Texts
 pub mod Words
 pub mod Listed
+pub mod Requests

@@ -21,10 +21,10 @@ pub returns : need.returns
 returns g c =
     let there = g .S·ReadStore .contents (c .args .store .now) .files in
     elim (c .loop-listed-test .came) [
-      else-loop-listed-test w ↦
-        all-listed (vec-items (c .loop-listed .rows)) (c .loop-listed .last) there (c .loop-listed .inv .0)
-        (omega (arith, c .loop-listed .inv .1, c .loop-listed .rows .ok .0, w .loop-listed-test .left, c .count-listed-end .ensures))
-    | then-loop-listed-test·in-Continue-row·in-rest w ↦
-        all-none (vec-items (c .loop-listed .rows)) (c .loop-listed .last) there (c .loop-listed .inv .0)
-        (sym (ap (mapped row-fields) (w .in-rest .is)) ∙ w .in-Continue-row .ensures tt)
+      | else-loop-listed-test w ↦
+          all-listed (vec-items (c .loop-listed .rows)) (c .loop-listed .last) there (c .loop-listed .inv .0)
+          (omega (arith, c .loop-listed .inv .1, c .loop-listed .rows .ok .0, w .loop-listed-test .left, c .count-listed-end .ensures))
+      | then-loop-listed-test·in-Continue-row·in-rest w ↦
+          all-none (vec-items (c .loop-listed .rows)) (c .loop-listed .last) there (c .loop-listed .inv .0)
+          (sym (ap (mapped row-fields) (w .in-rest .is)) ∙ w .in-Continue-row .ensures tt)
     ]
