@@ -111,6 +111,12 @@ row-listed rows more row n es a p e inv =
     ∙ ap (λ xs. map row-fields rows ++ xs) (sym (row-left n 0 es a (row-fields row) e))
     ∙ inv
 
+pub found-row : (o : Option Row) (row : Row) (x : Option Fields) → o ≡ Some row → mapped row-fields o ≡ x → Some (row-fields row) ≡ x
+found-row o row x p e = sym (ap (mapped row-fields) p) ∙ e
+
+pub found-none : (o : Option Row) (x : Option Fields) → o ≡ None → mapped row-fields o ≡ x → None ≡ x
+found-none o x p e = sym (ap (mapped row-fields) p) ∙ e
+
 -- before the first row
 pub none-listed : (rows : List Row) (es : List Entry) → Ascending 0 es → rows ≡ [] → map row-fields rows ++ listed (above 0 es) ≡ listed es
 none-listed rows es a p = ap (λ xs. map row-fields xs ++ listed (above 0 es)) p ∙ ap listed (all-above 0 0 es (omega arith) a)
