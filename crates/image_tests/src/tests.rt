@@ -97,153 +97,42 @@ fn sample_is_copied() -> Result<(), Fail> {
     check_copy(u32::MAX, 4, 0, [0xee, 0xee, 0xee, 0xee])
 }
 
-/// One byte that is written over an image, and the place of the field that is then wrong.
-#[derive(Clone, Copy)]
-struct Spoiling {
-    at: usize,
-    byte: u8,
-    place: usize,
-}
-
-/// Folder 2 "F" at byte 0, file 4 "A" of it with two bytes at byte 21, and file 5 "B" at the root at byte 44.
-const SPOILINGS: [Spoiling; 26] = [
+/// Bytes to write over an image, one at a time, and what is then wrong: each at, byte and place of the wrong field.
+/// The image has folder 2 "F" at byte 0, its file 4 "A" with two bytes at byte 21, and file 5 "B" at byte 44.
+const SPOILINGS: [(usize, u8, usize); 26] = [
     // tags, of the first file and of the last
-    Spoiling {
-        at: 0,
-        byte: 2,
-        place: 0,
-    },
-    Spoiling {
-        at: 13,
-        byte: 1,
-        place: 13,
-    },
-    Spoiling {
-        at: 18,
-        byte: 4,
-        place: 18,
-    },
-    Spoiling {
-        at: 44,
-        byte: 0,
-        place: 44,
-    },
-    Spoiling {
-        at: 57,
-        byte: 3,
-        place: 57,
-    },
-    Spoiling {
-        at: 62,
-        byte: 2,
-        place: 62,
-    },
+    (0, 2, 0),
+    (13, 1, 13),
+    (18, 4, 18),
+    (44, 0, 44),
+    (57, 3, 57),
+    (62, 2, 62),
     // the first field's length
-    Spoiling {
-        at: 22,
-        byte: 9,
-        place: 21,
-    },
-    Spoiling {
-        at: 22,
-        byte: 11,
-        place: 21,
-    },
-    Spoiling {
-        at: 23,
-        byte: 1,
-        place: 21,
-    },
+    (22, 9, 21),
+    (22, 11, 21),
+    (23, 1, 21),
     // numbers: 0, equal to the one before, smaller, too large
-    Spoiling {
-        at: 3,
-        byte: 0,
-        place: 0,
-    },
-    Spoiling {
-        at: 24,
-        byte: 2,
-        place: 21,
-    },
-    Spoiling {
-        at: 24,
-        byte: 1,
-        place: 21,
-    },
-    Spoiling {
-        at: 27,
-        byte: 0x80,
-        place: 21,
-    },
-    // formats
-    Spoiling {
-        at: 32,
-        byte: 1,
-        place: 39,
-    },
-    Spoiling {
-        at: 32,
-        byte: 2,
-        place: 21,
-    },
+    (3, 0, 0),
+    (24, 2, 21),
+    (24, 1, 21),
+    (27, 0x80, 21),
+    // formats: an unknown one, and a folder with bytes
+    (32, 2, 21),
+    (32, 1, 39),
     // parents: absent, no folder, the file itself, a later one
-    Spoiling {
-        at: 28,
-        byte: 1,
-        place: 21,
-    },
-    Spoiling {
-        at: 51,
-        byte: 4,
-        place: 44,
-    },
-    Spoiling {
-        at: 28,
-        byte: 4,
-        place: 21,
-    },
-    Spoiling {
-        at: 28,
-        byte: 5,
-        place: 21,
-    },
-    // names: empty, of an odd length, of an illegal unit
-    Spoiling {
-        at: 35,
-        byte: 0,
-        place: 34,
-    },
-    Spoiling {
-        at: 35,
-        byte: 1,
-        place: 34,
-    },
-    Spoiling {
-        at: 37,
-        byte: 0x1f,
-        place: 34,
-    },
-    Spoiling {
-        at: 37,
-        byte: 0x2f,
-        place: 34,
-    },
-    Spoiling {
-        at: 37,
-        byte: 0x3a,
-        place: 34,
-    },
-    Spoiling {
-        at: 37,
-        byte: 0x5c,
-        place: 34,
-    },
+    (28, 1, 21),
+    (51, 4, 44),
+    (28, 4, 21),
+    (28, 5, 21),
+    // names: empty, of an odd length, with an illegal unit
+    (35, 0, 34),
+    (35, 1, 34),
+    (37, 0x1f, 34),
+    (37, 0x2f, 34),
+    (37, 0x3a, 34),
+    (37, 0x5c, 34),
     // a folder with a byte
-    Spoiling {
-        at: 19,
-        byte: 1,
-        place: 18,
-    },
+    (19, 1, 18),
 ];
 
 /// The image that the table above spoils.
@@ -260,14 +149,13 @@ fn one_wrong_byte_is_found(rt: LibcRuntime) -> Result<(), Fail> {
     let right = right_image(rt.alloc())?;
     check_eq(place(right.as_slice()), None).note("the right image")?;
     for spoiling in SPOILINGS.iter() {
+        let (at, byte, wrong) = *spoiling;
         let mut image = right.clone()?;
-        let at = spoiling.at;
-        let byte = spoiling.byte;
         let Some(cell) = image.get_mut(at) else {
             return Err(Fail::new("the table goes past the image"));
         };
         *cell = byte;
-        check_eq(place(image.as_slice()), Some(spoiling.place)).note(format_args!(
+        check_eq(place(image.as_slice()), Some(wrong)).note(format_args!(
             "byte {at} set to {byte}"
         ))?;
     }

@@ -8,7 +8,7 @@ use lib.ListN.{length}
 use lib.Utf8.{encode}
 use Rattle.std.specs.declared.option.Option.{Option}
 use Rattle.std.specs.declared.option.Option.the-variants.{Some, None}
-use Rattle.std.proofs.shelf.Lists.{append-nil}
+use Rattle.std.proofs.shelf.Lists.{append-nil, append-assoc}
 use Rattle.bytes.proofs.Cutting.{none-some, some-same}
 use Rattle.inspect.specs.declared.text.Sign.{Sign}
 use Rattle.inspect.specs.declared.text.Sign.the-variants.{Plain, Escaped}
@@ -31,7 +31,7 @@ front-less : (t : Bool) (u v : ℕ) (us : List ℕ) → length (front t u v us .
 front-less true u v us = omega arith
 front-less false u v us = omega arith
 
-pub sign-text-cut : (us : List ℕ) (p : Sign × List ℕ) → cut-sign us ≡ Some p → units-text us ≡ text-by p
+sign-text-cut : (us : List ℕ) (p : Sign × List ℕ) → cut-sign us ≡ Some p → units-text us ≡ text-by p
 sign-text-cut [] p e = absurd (none-some e)
 sign-text-cut (u ∷ []) p e = sym (append-nil (sign-text (single u))) ∙ ap text-by (some-same e)
 sign-text-cut (u ∷ v ∷ us) p e = front-text (is-high u && is-low v) u v us ∙ ap text-by (some-same e)
@@ -40,3 +40,11 @@ pub sign-less : (us : List ℕ) (p : Sign × List ℕ) → cut-sign us ≡ Some 
 sign-less [] p e = absurd (none-some e)
 sign-less (u ∷ []) p e = subst (λ q. length (q .1) < length (u ∷ [])) (some-same e) (omega arith)
 sign-less (u ∷ v ∷ us) p e = subst (λ q. length (q .1) < length (u ∷ v ∷ us)) (some-same e) (front-less (is-high u && is-low v) u v us)
+
+-- one more sign is written
+pub sign-added : (old new all rest behind : List ℕ) (s : Sign) → new ≡ old ++ sign-text s → cut-sign rest ≡ Some (s, behind) → old ++ units-text rest ≡ all → new ++ units-text behind ≡ all
+sign-added old new all rest behind s p e inv =
+    ap (λ bs. bs ++ units-text behind) p
+    ∙ append-assoc old (sign-text s) (units-text behind)
+    ∙ ap (λ bs. old ++ bs) (sym (sign-text-cut rest (s, behind) e))
+    ∙ inv

@@ -1,2 +1,5 @@
 pub mod Signs
 pub mod Texts
+pub mod Words
+pub mod Listed
+pub mod Requests

@@ -1,6 +1,7 @@
 //! Prints what images of a read-only storage hold, or where they are wrong.
 use crate::report::report_of;
 use crate::request::Argument;
+use crate::request::Outcome;
 use crate::request::Request;
 use crate::request::USAGE;
 use crate::request::argument_of;
@@ -14,23 +15,6 @@ mod report;
 mod request;
 mod table;
 mod text;
-
-/// What came of one file.
-#[derive(Clone, Copy)]
-enum Outcome {
-    Listed,
-    Refused,
-    Unread,
-}
-
-/// Whether an outcome makes the program end with an error.
-fn is_failure(outcome: Outcome, is_strict: bool) -> bool {
-    match outcome {
-        Outcome::Listed => false,
-        Outcome::Refused => is_strict,
-        Outcome::Unread => true,
-    }
-}
 
 /// The bytes of a file, read in one piece where its size is known beforehand.
 fn read_image(rt: &LibcRuntime, path: &str) -> io::Result<Vec<u8>> {
@@ -68,7 +52,7 @@ fn inspect_all(rt: &LibcRuntime, words: &[String], is_strict: bool) -> io::Resul
     for word in words {
         if let Argument::File = argument_of(word.as_str()) {
             let outcome = inspect(rt, gap, word.as_str())?;
-            has_failed = is_failure(outcome, is_strict) || has_failed;
+            has_failed = outcome.is_failure(is_strict) || has_failed;
             if !matches!(outcome, Outcome::Unread) {
                 gap = "\n";
             }

@@ -1,4 +1,7 @@
-//! What the arguments ask for.
+//! What the arguments ask for, and when the program fails.
+ghost use mathlib.Core.Path.{_≡_};
+ghost use mathlib.Core.Bool.{not, _&&_};
+ghost use Rattle.inspect.specs.Requests.{with-argument, fails};
 
 /// What the program says of itself.
 pub const USAGE: &str = "usage: inspect [--strict] FILE..
@@ -65,7 +68,9 @@ impl Request {
     }
 
     /// The request with one more argument.
-    pub fn with(self, argument: Argument) -> Request {
+    pub fn with(self, argument: Argument) -> Request
+        ensures { λ r. ⌜ r ≡ with-argument self argument ⌝ }
+    {
         match argument {
             Argument::Help => Request {
                 wants_help: true,
@@ -96,7 +101,30 @@ impl Request {
     }
 
     /// Whether there is something to inspect, and no option is unknown.
-    pub fn is_right(self) -> bool {
+    pub fn is_right(self) -> bool
+        ensures { λ r. ⌜ r ≡ (self .«has_files» && not (self .«has_unknown»)) ⌝ }
+    {
         self.has_files && !self.has_unknown
+    }
+}
+
+/// What came of one file.
+#[derive(Clone, Copy)]
+pub enum Outcome {
+    Listed,
+    Refused,
+    Unread,
+}
+
+impl Outcome {
+    /// Whether this makes the program end with an error.
+    pub fn is_failure(self, is_strict: bool) -> bool
+        ensures { λ r. ⌜ r ≡ fails self «is_strict» ⌝ }
+    {
+        match self {
+            Outcome::Listed => false,
+            Outcome::Refused => is_strict,
+            Outcome::Unread => true,
+        }
     }
 }

@@ -1,4 +1,9 @@
 //! A listing as a table with aligned columns.
+ghost use mathlib.Core.Path.{_≡_};
+ghost use Prim.Native.Nat.{max};
+ghost use lib.ListN.{length};
+ghost use Rattle.std.specs.Of.String.{string-len};
+ghost use Rattle.inspect.specs.Words.{kind-word, protection-word};
 use crate::listing::Row;
 use object::format::Format;
 use object::protection::Protection;
@@ -6,7 +11,9 @@ use std::alloc::AllocError;
 use std::alloc::Global;
 
 /// The words for the kinds of files.
-fn kind(format: Format) -> &'static str {
+fn kind(format: Format) -> &'static str
+    ensures { λ r. ⌜ now r ≡ kind-word format ⌝ }
+{
     match format {
         Format::Undefined => "undefined",
         Format::Association => "folder",
@@ -14,7 +21,9 @@ fn kind(format: Format) -> &'static str {
     }
 }
 
-fn protection_word(protection: Protection) -> &'static str {
+fn protection_word(protection: Protection) -> &'static str
+    ensures { λ r. ⌜ now r ≡ protection-word protection ⌝ }
+{
     match protection {
         Protection::Unprotected => "none",
         Protection::ReadOnly => "read-only",
@@ -42,7 +51,12 @@ struct Widths {
 
 impl Widths {
     /// Widths for these columns and one more line.
-    fn wider(self, line: &Line<'_>) -> Widths {
+    fn wider(self, line: &Line<'_>) -> Widths
+        ensures { λ r. ⌜ r .number ≡ max (self .number) (string-len (now (line .entry) .number)) ⌝ }
+        ensures { λ r. ⌜ r .kind ≡ max (self .kind) (length (now (now (line .entry) .kind))) ⌝ }
+        ensures { λ r. ⌜ r .size ≡ max (self .size) (string-len (now (line .entry) .size)) ⌝ }
+        ensures { λ r. ⌜ r .protection ≡ max (self .protection) (length (now (now (line .entry) .protection))) ⌝ }
+    {
         Widths {
             number: self.number.max(line.number.len()),
             kind: self.kind.max(line.kind.len()),
