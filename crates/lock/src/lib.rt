@@ -1,0 +1,2 @@
+//! A lock over a writing store.
+pub mod write_lock;
