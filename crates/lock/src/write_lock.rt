@@ -18,7 +18,7 @@ pub struct WriteLock<'a, S> {
 impl<'a, S> WriteLock<'a, S> {
     /// A lock over `below`, not set.
     pub fn new(below: &'a mut S) -> WriteLock<'a, S>
-        ensures { λ r. ⌜ now (r .below) ≡ now (below .entry) ⌝ ∗ ⌜ r .set ≡ false ⌝ }
+        ensures { λ r. ⌜ now (r .below) ≡ now (below .entry) ⌝ ∗ ⌜ r .set ≡ false ⌝ ∗ ⌜ name (r .below) ≡ name (below .entry) ⌝ }
     {
         WriteLock { below, set: false }
     }

@@ -1,0 +1,1 @@
+//! Whether two pairs of storages are equal.
