@@ -18,11 +18,13 @@ fn same_info(x: &FileInfo, y: &FileInfo) -> bool
 fn same_file<A: ReadStore, B: ReadStore>(a: &A, b: &B, number: u32) -> bool
     ensures { λ r. ⌜ Decides r (lookup number (A·ReadStore .contents (now (a .entry)) .files) ≡ lookup number (B·ReadStore .contents (now (b .entry)) .files)) ⌝ }
 {
-    match (a.describe(number), b.describe(number)) {
-        (Some(x), Some(y)) => same_info(&x, &y) && same_bytes(a, b, number, x.length),
-        (None, None) => true,
-        _ => false,
-    }
+    let Some(x) = a.describe(number) else {
+        return b.describe(number).is_none();
+    };
+    let Some(y) = b.describe(number) else {
+        return false;
+    };
+    same_info(&x, &y) && same_bytes(a, b, number, x.length)
 }
 
 /// Whether two stores have the same files under the same numbers.
