@@ -12,10 +12,11 @@ use Rattle.bytes.specs.Parts.{over}
 -- two copies over the same memory are equal exactly if as much was copied and that is equal
 pub chunk : {r : Bool} {x y : List ℕ} (p q z : List ℕ) (m n : ℕ) → Decides r (x ≡ y) → x ≡ over p z → y ≡ over q z
     → m ≡ length p → n ≡ length q → m ≡ n → Decides r (p ≡ q)
-chunk {r} {x} {y} p q z m n d ex ey em en e =
-    ( (λ t. sym (take-append-seam p (drop (length p) z)) ∙ ap (take (length p)) (sym ex ∙ d .0 t ∙ ey)
-        ∙ ap (λ k. take k (over q z)) (sym em ∙ e ∙ en) ∙ take-append-seam q (drop (length q) z))
-    , (λ pq. d .1 (ex ∙ ap (λ w. over w z) pq ∙ sym ey)) )
+chunk {r} {x} {y} p q z m n d ex ey em en e = (
+  (λ t. sym (take-append-seam p (drop (length p) z)) ∙ ap (take (length p)) (sym ex ∙ d .0 t ∙ ey)
+      ∙ ap (λ k. take k (over q z)) (sym em ∙ e ∙ en) ∙ take-append-seam q (drop (length q) z)),
+  (λ pq. d .1 (ex ∙ ap (λ w. over w z) pq ∙ sym ey)),
+)
 
 take-more : (n m : ℕ) (xs : List ℕ) → take (n + m) xs ≡ take n xs ++ take m (drop n xs)
 take-more zero m xs = let on : zero + m ≡ m = omega arith in ap (λ k. take k xs) on

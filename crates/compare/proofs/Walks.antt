@@ -45,21 +45,27 @@ some-above lo n m (x ∷ xs) r e =
     let up = r .0 in
     ⊎-elim
     (λ (h : n < x .number).
-        let b = lt-ltb n (x .number) h in
-        let same : m ≡ x .number = ap (λ o. valueOr o 0) (e ∙ ap (λ t. cond t (Some (x .number)) (next-above n xs)) b) in
-        let rest : above m (x ∷ xs) ≡ xs = ap (λ t. cond t (x ∷ xs) (above m xs)) (le-ltb m (x .number) (omega arith)) ∙ all-above m (x .number) xs (omega arith) (r .1) in
-        record {
-          more = omega arith; over = omega arith; file = x .file;
-          found = ap (λ t. cond t (Some (x .file)) (lookup m xs)) (eq-eqb (x .number) m (sym same));
-          begins = ap (λ t. cond t (x ∷ xs) (above n xs)) b ∙ ap (λ k. record { number = k; file = x .file } ∷ xs) (sym same) ∙ ap (λ z. record { number = m; file = x .file } ∷ z) (sym rest) })
+    let b = lt-ltb n (x .number) h in
+    let same : m ≡ x .number = ap (λ o. valueOr o 0) (e ∙ ap (λ t. cond t (Some (x .number)) (next-above n xs)) b) in
+    let rest : above m (x ∷ xs) ≡ xs = ap (λ t. cond t (x ∷ xs) (above m xs)) (le-ltb m (x .number) (omega arith)) ∙ all-above m (x .number) xs (omega arith) (r .1) in
+    record {
+      more = omega arith;
+      over = omega arith;
+      file = x .file;
+      found = ap (λ t. cond t (Some (x .file)) (lookup m xs)) (eq-eqb (x .number) m (sym same));
+      begins = ap (λ t. cond t (x ∷ xs) (above n xs)) b ∙ ap (λ k. record { number = k; file = x .file } ∷ xs) (sym same) ∙ ap (λ z. record { number = m; file = x .file } ∷ z) (sym rest);
+    })
     (λ (h : x .number ≤ n).
-        let b = le-ltb n (x .number) h in
-        let i = some-above (x .number) n m xs (r .1) (e ∙ ap (λ t. cond t (Some (x .number)) (next-above n xs)) b) in
-        let o = i .over in
-        record {
-          more = i .more; over = omega arith; file = i .file;
-          found = ap (λ t. cond t (Some (x .file)) (lookup m xs)) (ne-eqb (x .number) m (λ z. omega arith)) ∙ i .found;
-          begins = ap (λ t. cond t (x ∷ xs) (above n xs)) b ∙ i .begins ∙ ap (λ z. record { number = m; file = i .file } ∷ z) (sym (ap (λ t. cond t (x ∷ xs) (above m xs)) (le-ltb m (x .number) (omega arith)))) })
+    let b = le-ltb n (x .number) h in
+    let i = some-above (x .number) n m xs (r .1) (e ∙ ap (λ t. cond t (Some (x .number)) (next-above n xs)) b) in
+    let o = i .over in
+    record {
+      more = i .more;
+      over = omega arith;
+      file = i .file;
+      found = ap (λ t. cond t (Some (x .file)) (lookup m xs)) (ne-eqb (x .number) m (λ z. omega arith)) ∙ i .found;
+      begins = ap (λ t. cond t (x ∷ xs) (above n xs)) b ∙ i .begins ∙ ap (λ z. record { number = m; file = i .file } ∷ z) (sym (ap (λ t. cond t (x ∷ xs) (above m xs)) (le-ltb m (x .number) (omega arith))));
+    })
     (cases-lt n (x .number))
 
 -- a step over a file that both have: what is left to compare is above it

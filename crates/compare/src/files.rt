@@ -11,7 +11,11 @@ use store::read::ReadStore;
 fn same_info(x: &FileInfo, y: &FileInfo) -> bool
     ensures { λ r. ⌜ Decides r (now (x .entry) ≡ now (y .entry)) ⌝ }
 {
-    x.format == y.format && x.protection == y.protection && x.parent == y.parent && x.length == y.length && x.name.same(&y.name)
+    x.format == y.format
+        && x.protection == y.protection
+        && x.parent == y.parent
+        && x.length == y.length
+        && x.name.same(&y.name)
 }
 
 // Whether a number finds the same.

@@ -21,7 +21,14 @@ pub fn is_locked_under<S: WriteStore>(store: &mut S, lower: bool, upper: bool) -
 }
 
 /// Adds a file to a store under two locks, of which the upper lies over the lower.
-pub fn add_under<S: WriteStore>(store: &mut S, lower: bool, upper: bool, number: u32, file: &NewFile, bytes: &[u8]) -> Result<(), StoreFault>
+pub fn add_under<S: WriteStore>(
+    store: &mut S,
+    lower: bool,
+    upper: bool,
+    number: u32,
+    file: &NewFile,
+    bytes: &[u8],
+) -> Result<(), StoreFault>
     ensures { λ r. ⌜ r ≡ result-of (added (upper || (lower || S·WriteStore .locked (now (store .entry)))) number (file-of (now (file .entry)) (now (bytes .entry))) (S·ReadStore .contents (now (store .entry)))) ⌝ }
 {
     let mut below = WriteLock::new(store);

@@ -1,4 +1,4 @@
-use Rattle.compare.specs.Pairs.{storages}
+use Rattle.protocol.specs.Pairs.{storages-of}
 use Rattle.compare.proofs.Replies.{decides-alike}
 use Rattle.compare.proofs.storages.alike_pairs.Needs as need
 
@@ -10,8 +10,8 @@ returns g c =
     let q = c .args .second-b .now in
     record {
       equal = c .equal-pairs .ensures;
-      alike = decides-alike (storages (g .W·ReadStore .contents w) (g .W·WriteStore .locked w) (g .R·ReadStore .contents r))
-          (storages (g .V·ReadStore .contents v) (g .V·WriteStore .locked v) (g .Q·ReadStore .contents q)) (c .equal-pairs .result)
+      alike = decides-alike (storages-of (g .W·ReadStore) (g .W·WriteStore) (g .R·ReadStore) w r)
+          (storages-of (g .V·ReadStore) (g .V·WriteStore) (g .Q·ReadStore) v q) (c .equal-pairs .result)
           (record { first-sound = g .W·ReadStore .sound w; second-sound = g .R·ReadStore .sound r })
           (record { first-sound = g .V·ReadStore .sound v; second-sound = g .Q·ReadStore .sound q }) (c .equal-pairs .ensures);
     }
