@@ -1,3 +1,3 @@
 //! A lock over a writing store.
-pub mod nested;
+pub mod uses;
 pub mod write_lock;

@@ -1,4 +1,4 @@
-//! A lock over a lock over any writing store: either lock closes it, and both open leave it as it is.
+//! Locks in use over any writing store: one gives it back as it was, and of two that lie over one another either closes it.
 ghost use mathlib.Core.Path.{_≡_};
 ghost use mathlib.Core.Bool.{_||_};
 ghost use Rattle.store.specs.Changes.{added};
@@ -36,4 +36,14 @@ pub fn add_under<S: WriteStore>(
     let mut above = WriteLock::new(&mut below);
     above.set_to(upper);
     above.add(number, file, bytes)
+}
+
+/// Whether a store would be locked under one lock that is set or not. The store comes back as it was.
+pub fn is_locked_if<S: WriteStore>(store: &mut S, set: bool) -> bool
+    ensures value { λ r. ⌜ r ≡ set || S·WriteStore .locked (now (store .entry)) ⌝ }
+    ensures store { λ _. ⌜ now (store .exit) ≡ now (store .entry) ⌝ }
+{
+    let mut lock = WriteLock::new(store);
+    lock.set_to(set);
+    lock.is_locked()
 }
