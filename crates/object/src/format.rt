@@ -3,7 +3,7 @@ ghost use mathlib.Core.Path.{_≡_};
 ghost use Rattle.object.specs.Formats.{format-number, format-of, is-folder};
 
 /// What an object is. An association is a folder.
-#[derive(Clone, Copy)]
+#[derive(Clone, Copy, PartialEq, Eq)]
 pub enum Format {
     Undefined,
     Association,

@@ -3,6 +3,7 @@ ghost use mathlib.Core.Path.{_≡_};
 ghost use mathlib.Core.Bool.{true};
 ghost use Rattle.object.specs.Legal.{stored-name};
 
+pub mod compare;
 pub mod make;
 
 /// How many units a name has at most.

@@ -3,7 +3,7 @@ ghost use mathlib.Core.Path.{_≡_};
 ghost use Rattle.object.specs.Protections.{protection-number, protection-of};
 
 /// Whether an object may be deleted or changed by a host.
-#[derive(Clone, Copy)]
+#[derive(Clone, Copy, PartialEq, Eq)]
 pub enum Protection {
     Unprotected,
     ReadOnly,

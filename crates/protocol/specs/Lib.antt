@@ -10,6 +10,7 @@ pub mod Listing
 pub mod Looking
 pub mod Machine
 pub mod Objects
+pub mod Pairs
 pub mod ReadBack
 pub mod Refusals
 pub mod Responses

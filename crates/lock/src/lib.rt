@@ -1,0 +1,3 @@
+//! A lock over a writing store.
+pub mod uses;
+pub mod write_lock;

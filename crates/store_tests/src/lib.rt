@@ -1,0 +1,3 @@
+//! Tests over stores of all makes.
+#[cfg(test)]
+mod tests;
