@@ -1,0 +1,7 @@
+pub mod Zeros
+pub mod Gates
+pub mod Looks
+pub mod Files
+pub mod Bodies
+pub mod Walks
+pub mod Acts

@@ -1,2 +1,6 @@
 pub mod Pending
 pub mod Replies
+pub mod Sessions
+pub mod States
+pub mod Looks
+pub mod Acts

@@ -1,9 +1,11 @@
 -- What the code's replies tell.
 use mathlib.Core.List.{List, []}
+use mathlib.Core.Path.{_≡_}
 use Prim.Native.Nat.{ℕ}
 use lib.ListN.{length}
 use Rattle.std.specs.declared.result.Result.{Result}
 use Rattle.std.specs.declared.result.Result.the-variants.{Ok, Err}
+use Rattle.bytes.specs.Parts.{over}
 use Rattle.wire.specs.Containers.{response}
 use Rattle.wire.specs.Parameters.{listed}
 use Rattle.protocol.specs.declared.fault.OperationFault.{OperationFault}
@@ -45,3 +47,9 @@ result-told (Err f) = Err f
 abbrev pub told-of : ℕ → Result Shown-length OperationFault → Told
 told-of transaction (Ok d) = record { code = ok; transaction = transaction; parameters = d .parameters; data-length = d .data-length }
 told-of transaction (Err f) = record { code = operation-fault-number f; transaction = transaction; parameters = parameters-of f; data-length = 0 }
+
+-- the reply, the 32 bytes and the state are as the session machine has them
+pub record Replied (a : machine.Answer) (r : Reply) (was later : List ℕ) (b : machine.State) : Type 0 where
+  pub reply : told r ≡ told-by (a .reply)
+  pub response : later ≡ over (machine.response-of (a .reply)) was
+  pub state : b ≡ a .state

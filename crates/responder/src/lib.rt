@@ -2,3 +2,6 @@
 pub mod command;
 pub mod fault;
 pub mod reply;
+pub mod responder;
+pub mod session;
+mod walk;
