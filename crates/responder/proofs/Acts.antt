@@ -129,6 +129,7 @@ info-is p s c host = ap (settled (p .first) (Open s)) (sym whole)
   where
     made : ObjectInfo → Format → Announcement
     made i format = record { number = s .next; format = format; protection = i .protection; parent = parent-number (parameter 2 c); name = i .name; size = i .size }
+
     inner : (i : ObjectInfo) (format : Format) → bind (announced p s (info-told s c)) (announced-as p s (parameter 2 c) i format) ≡
         provided (not (is-folder format) || eqb (i .size) 0) InvalidDataset
         (provided (is-parent (parent-number (parameter 2 c)) (p .first .files)) InvalidParent
@@ -143,6 +144,7 @@ info-is p s c host = ap (settled (p .first) (Open s)) (sym whole)
         (bind-provided (announced p s (info-told s c)) (leb (i .size) max-length) ObjectTooLarge (provided (has-room (i .size) (p .first) && leb (s .next) last-number) StoreFull (Ok (made i format)))
         ∙ ap (provided (leb (i .size) max-length) ObjectTooLarge)
         (bind-provided (announced p s (info-told s c)) (has-room (i .size) (p .first) && leb (s .next) last-number) StoreFull (Ok (made i format)))))
+
     whole : bind (announced p s (info-told s c)) (announcement-told p s c host) ≡
         provided (eqb (parameter 1 c) 0 || is-storage (parameter 1 c)) InvalidStorage
         (provided (not (eqb (parameter 1 c) second-storage) && not (p .locked)) StoreReadOnly
@@ -160,5 +162,5 @@ info-is p s c host = ap (settled (p .first) (Open s)) (sym whole)
         ∙ ap (provided (not (eqb (parameter 1 c) second-storage) && not (p .locked)) StoreReadOnly)
         (bind-then (announced p s (info-told s c)) (dataset-in c host) of-dataset (λ i. present (format-of (i .format)) InvalidFormat (λ format. announced-as p s (parameter 2 c) i format))
         ∙ (λ j. and-then (dataset-in c host) of-dataset (λ i.
-          (bind-present (announced p s (info-told s c)) (format-of (i .format)) InvalidFormat (λ format. announced-as p s (parameter 2 c) i format)
-          ∙ (λ l. present (format-of (i .format)) InvalidFormat (λ format. inner i format l))) j))))
+        (bind-present (announced p s (info-told s c)) (format-of (i .format)) InvalidFormat (λ format. announced-as p s (parameter 2 c) i format)
+        ∙ (λ l. present (format-of (i .format)) InvalidFormat (λ format. inner i format l))) j))))

@@ -36,10 +36,10 @@ copied-wrote ys xs out a len k count same room full copied =
     let l = length-drop a ys in
     let inside : length (take k (drop a ys)) ≡ len = ap (λ n. length (take n (drop a ys))) same ∙ length-take-le len (drop a ys) (omega arith) in
     let out-is : out ≡ take len xs =
-        copied .bytes ∙ ap (λ n. over (take n xs) (take k (drop a ys))) inside
-        ∙ ap (λ z. take len xs ++ z) (drop-all (length (take len xs)) (take k (drop a ys)) (omega arith)) ∙ append-nil (take len xs) in
+    copied .bytes ∙ ap (λ n. over (take n xs) (take k (drop a ys))) inside
+    ∙ ap (λ z. take len xs ++ z) (drop-all (length (take len xs)) (take k (drop a ys)) (omega arith)) ∙ append-nil (take len xs) in
     let behind-is : drop k (drop a ys) ≡ drop (a + length (take len xs)) ys =
-        drop-drop k a ys ∙ ap (λ n. drop (a + n) ys) (same ∙ sym full) in
+    drop-drop k a ys ∙ ap (λ n. drop (a + n) ys) (same ∙ sym full) in
     record {
       fits = omega arith;
       behind = ap (λ n. a + n) (sym full);
@@ -59,6 +59,7 @@ body-of p h i e = by (object-at p h) refl e
     go : (f : File) → object-at p h ≡ Some f → (t : Bool) → is-folder (f .format) ≡ t → _≡_ {A = Result FileInfo OperationFault} (Ok i) (provided (not t) InvalidHandle (Ok (info-of f))) → Body p h i
     go f q true w e = let z : _≡_ {A = ℕ} 0 1 = cc in absurd (omega arith)
     go f q false w e = let n : i ≡ info-of f = cc in record { file = f; there = q; no-folder = w; long = ap (λ (x : FileInfo). x .length) n }
+
     by : (o : Option File) → object-at p h ≡ o
         → _≡_ {A = Result FileInfo OperationFault} (Ok i) (present o InvalidHandle (λ f. provided (not (is-folder (f .format))) InvalidHandle (Ok (info-of f)))) → Body p h i
     by None q e = let z : _≡_ {A = ℕ} 0 1 = cc in absurd (omega arith)
@@ -80,6 +81,7 @@ module _ (p : Storages) (h : ℕ) (show : File → Result Shown OperationFault) 
       go : (f : File) (t : Bool) → _≡_ {A = Result FileInfo OperationFault} (Err x) (provided (not t) InvalidHandle (Ok (info-of f))) → provided (not t) InvalidHandle (show f) ≡ Err x
       go f true e = let n : x ≡ InvalidHandle = cc in ap Err (sym n)
       go f false e = let z : _≡_ {A = ℕ} 0 1 = cc in absurd (omega arith)
+
       by : (o : Option File)
           → _≡_ {A = Result FileInfo OperationFault} (Err x) (present o InvalidHandle (λ f. provided (not (is-folder (f .format))) InvalidHandle (Ok (info-of f))))
           → present o InvalidHandle (λ f. provided (not (is-folder (f .format))) InvalidHandle (show f)) ≡ Err x
@@ -139,11 +141,11 @@ part-is p h offset maximum i e q =
     let b = body-of p h i e in
     let bs = b .file .bytes in
     let count : length (part offset maximum bs) ≡ min maximum (i .length - offset) =
-        length-take maximum (drop offset bs) ∙ ap (λ n. min maximum n) (length-drop offset bs ∙ ap (λ n. n - offset) (sym (b .long))) in
+    length-take maximum (drop offset bs) ∙ ap (λ n. min maximum n) (length-drop offset bs ∙ ap (λ n. n - offset) (sym (b .long))) in
     let same : part offset maximum bs ≡ part offset (min maximum (i .length - offset)) (bytes-of (object-at p h)) =
-        sym (ap (λ n. take (min maximum n) (drop offset (bytes-of (object-at p h)))) (ap (λ n. n - offset) (b .long) ∙ sym (length-drop offset bs))
-        ∙ ap (λ z. take (min maximum (length (drop offset bs))) (drop offset z)) (bytes-there b)
-        ∙ take-min maximum (drop offset bs)) in
+    sym (ap (λ n. take (min maximum n) (drop offset (bytes-of (object-at p h)))) (ap (λ n. n - offset) (b .long) ∙ sym (length-drop offset bs))
+    ∙ ap (λ z. take (min maximum (length (drop offset bs))) (drop offset z)) (bytes-there b)
+    ∙ take-min maximum (drop offset bs)) in
     body-shown p h (shows-part offset maximum) b
     ∙ ap (λ t. provided t InvalidParameter (Ok (record { parameters = length (part offset maximum bs) ∷ []; payload = part offset maximum bs })))
     (ap (λ n. leb offset n) (sym (b .long)) ∙ q)

@@ -5,3 +5,4 @@ pub mod Files
 pub mod Bodies
 pub mod Walks
 pub mod Acts
+pub mod Listings

@@ -39,9 +39,10 @@ pub shown-placed : (c : Command) (parameters payload out later : List ℕ) (w : 
 shown-placed c parameters payload out later w e =
     ap (λ (p : Result ℕ DatasetFault × List ℕ). (shown-by parameters (p .0), p .1)) e ∙ by (leb (length (data-of c payload)) (length out))
   where
-    by : (t : Bool) → _≡_ {A = Written}
-        (shown-by parameters (cond {A = Result ℕ DatasetFault × List ℕ} t (Ok (length (data-of c payload)), over (data-of c payload) out) (Err BufferTooShort, out) .0),
-         cond {A = Result ℕ DatasetFault × List ℕ} t (Ok (length (data-of c payload)), over (data-of c payload) out) (Err BufferTooShort, out) .1)
+    by : (t : Bool) → _≡_ {A = Written} (
+      shown-by parameters (cond {A = Result ℕ DatasetFault × List ℕ} t (Ok (length (data-of c payload)), over (data-of c payload) out) (Err BufferTooShort, out) .0),
+      cond {A = Result ℕ DatasetFault × List ℕ} t (Ok (length (data-of c payload)), over (data-of c payload) out) (Err BufferTooShort, out) .1,
+    )
         (cond t (Ok (record { parameters = parameters; data-length = length (data-of c payload) }), over (data-of c payload) out) (Err GeneralError, out))
     by true = refl
     by false = refl

@@ -4,3 +4,4 @@ pub mod Sessions
 pub mod States
 pub mod Looks
 pub mod Acts
+pub mod Listings

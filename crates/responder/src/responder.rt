@@ -1,5 +1,6 @@
 //! The responder over its two stores.
 mod acting;
+mod listing;
 mod looking;
 
 ghost use mathlib.Core.Path.{_≡_};

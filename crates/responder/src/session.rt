@@ -81,7 +81,11 @@ impl CurrentSession {
         ensures result { λ r. ⌜ r ≡ admission (gate (now (self .entry) .session) (now (command .entry))) ⌝ }
         ensures after { λ _. ⌜ now (self .exit) .session ≡ session-at (gate (now (self .entry) .session) (now (command .entry))) ⌝ }
     {
-        match (self.session, operation_of(command.code), command.transaction) {
+        match (
+            self.session,
+            operation_of(command.code),
+            command.transaction,
+        ) {
             (Session::Open(open), _, _) if command.code == OPEN_SESSION => {
                 Err(OperationFault::SessionAlreadyOpen(open.id))
             }

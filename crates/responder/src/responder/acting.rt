@@ -78,7 +78,11 @@ fn new_file(announcement: &Announcement) -> NewFile
 }
 
 /// The payload of a command's data, if it has this size.
-fn payload_of_size<'a>(size: u32, command: &Command, host: &'a [u8]) -> Result<&'a [u8], DatasetFault>
+fn payload_of_size<'a>(
+    size: u32,
+    command: &Command,
+    host: &'a [u8],
+) -> Result<&'a [u8], DatasetFault>
     ensures { λ r. ⌜ each-ok now r ≡ payload-of-size size (now (command .entry)) (now (host .entry)) ⌝ }
 {
     let payload = read_data(host, command.code, command.transaction)?;
@@ -165,7 +169,13 @@ impl<'w, 'r, W: WriteStore, R: ReadStore> Responder<'w, 'r, W, R> {
         is_parent(&*self.first, parent)
     }
 
-    fn announced_as(&self, session: OpenSession, parent: u32, info: &ObjectInfo, format: Format) -> Result<Announcement, OperationFault>
+    fn announced_as(
+        &self,
+        session: OpenSession,
+        parent: u32,
+        info: &ObjectInfo,
+        format: Format,
+    ) -> Result<Announcement, OperationFault>
         ensures room { λ r. ⌜ Cases r (λ _. session .next ≤ 0x7FFFFFFE) (λ _. Unit {0}) ⌝ }
         ensures value { λ r. ⌜ r ≡ announced-as (state-of W·ReadStore W·WriteStore R·ReadStore (now (self .entry)) .storages) session parent (now (info .entry)) format ⌝ }
     {
@@ -192,7 +202,12 @@ impl<'w, 'r, W: WriteStore, R: ReadStore> Responder<'w, 'r, W, R> {
         })
     }
 
-    fn announcement(&self, session: OpenSession, command: &Command, host: &[u8]) -> Result<Announcement, OperationFault>
+    fn announcement(
+        &self,
+        session: OpenSession,
+        command: &Command,
+        host: &[u8],
+    ) -> Result<Announcement, OperationFault>
         ensures room { λ r. ⌜ Cases r (λ _. session .next ≤ 0x7FFFFFFE) (λ _. Unit {0}) ⌝ }
         ensures value { λ r. ⌜ r ≡ announcement-told (state-of W·ReadStore W·WriteStore R·ReadStore (now (self .entry)) .storages) session (now (command .entry)) (now (host .entry)) ⌝ }
     {
@@ -211,7 +226,12 @@ impl<'w, 'r, W: WriteStore, R: ReadStore> Responder<'w, 'r, W, R> {
     }
 
     /// Adds a folder at once, and announces any other file.
-    fn announce(&mut self, session: OpenSession, announcement: &Announcement, told: Parameters) -> Result<Parameters, OperationFault>
+    fn announce(
+        &mut self,
+        session: OpenSession,
+        announcement: &Announcement,
+        told: Parameters,
+    ) -> Result<Parameters, OperationFault>
         requires same { ⌜ now self .session .session ≡ Open session ⌝ }
         requires room { ⌜ session .next ≤ 0x7FFFFFFE ⌝ }
         ensures acted { λ r. ⌜ Acted (state-of W·ReadStore W·WriteStore R·ReadStore (now (self .entry)) .storages) (settled (state-of W·ReadStore W·WriteStore R·ReadStore (now (self .entry)) .storages .first) (Open session) (announced (state-of W·ReadStore W·WriteStore R·ReadStore (now (self .entry)) .storages) session (listed told) (now (announcement .entry)))) r (state-of W·ReadStore W·WriteStore R·ReadStore (now (self .exit))) ⌝ }
@@ -221,19 +241,29 @@ impl<'w, 'r, W: WriteStore, R: ReadStore> Responder<'w, 'r, W, R> {
             self.first.add(session.next, &new_file(announcement), &[])?;
             self.session.give_next(session, Transfer::Idle);
         } else {
-            self.session.give_next(session, Transfer::Announced(*announcement));
+            self.session
+                .give_next(session, Transfer::Announced(*announcement));
         }
         Ok(told)
     }
 
     /// SendObjectInfo.
-    fn send_object_info(&mut self, session: OpenSession, command: &Command, host: &[u8]) -> Result<Parameters, OperationFault>
+    fn send_object_info(
+        &mut self,
+        session: OpenSession,
+        command: &Command,
+        host: &[u8],
+    ) -> Result<Parameters, OperationFault>
         requires { ⌜ now self .session .session ≡ Open session ⌝ }
         ensures acted { λ r. ⌜ Acted (state-of W·ReadStore W·WriteStore R·ReadStore (now (self .entry)) .storages) (info-sent (state-of W·ReadStore W·WriteStore R·ReadStore (now (self .entry)) .storages) session (now (command .entry)) (now (host .entry))) r (state-of W·ReadStore W·WriteStore R·ReadStore (now (self .exit))) ⌝ }
         ensures lender { λ _. ⌜ name (now (self .exit) .first) ≡ name (now (self .entry) .first) ⌝ }
     {
         let announcement = self.announcement(session, command, host)?;
-        let told = Parameters::three(FIRST_STORAGE, parent_told(command.parameters[1]), session.next);
+        let told = Parameters::three(
+            FIRST_STORAGE,
+            parent_told(command.parameters[1]),
+            session.next,
+        );
         self.announce(session, &announcement, told)
     }
 
@@ -284,7 +314,12 @@ impl<'w, 'r, W: WriteStore, R: ReadStore> Responder<'w, 'r, W, R> {
     }
 
     /// DeleteObject.
-    fn delete_object(&mut self, session: OpenSession, handle: u32, format: u32) -> Result<Parameters, OperationFault>
+    fn delete_object(
+        &mut self,
+        session: OpenSession,
+        handle: u32,
+        format: u32,
+    ) -> Result<Parameters, OperationFault>
         requires { ⌜ now self .session .session ≡ Open session ⌝ }
         ensures acted { λ r. ⌜ Acted (state-of W·ReadStore W·WriteStore R·ReadStore (now (self .entry)) .storages) (object-deleted (state-of W·ReadStore W·WriteStore R·ReadStore (now (self .entry)) .storages) session handle format) r (state-of W·ReadStore W·WriteStore R·ReadStore (now (self .exit))) ⌝ }
         ensures lender { λ _. ⌜ name (now (self .exit) .first) ≡ name (now (self .entry) .first) ⌝ }
@@ -295,25 +330,42 @@ impl<'w, 'r, W: WriteStore, R: ReadStore> Responder<'w, 'r, W, R> {
     }
 
     /// Stores the object that was announced.
-    fn store_object(&mut self, session: OpenSession, announcement: &Announcement, command: &Command, host: &[u8]) -> Result<Parameters, OperationFault>
+    fn store_object(
+        &mut self,
+        session: OpenSession,
+        announcement: &Announcement,
+        command: &Command,
+        host: &[u8],
+    ) -> Result<Parameters, OperationFault>
         requires { ⌜ now self .session .session ≡ Open session ⌝ }
         ensures acted { λ r. ⌜ Acted (state-of W·ReadStore W·WriteStore R·ReadStore (now (self .entry)) .storages) (sent-for (state-of W·ReadStore W·WriteStore R·ReadStore (now (self .entry)) .storages) session (now (command .entry)) (now (host .entry)) (Some (now (announcement .entry)))) r (state-of W·ReadStore W·WriteStore R·ReadStore (now (self .exit))) ⌝ }
         ensures lender { λ _. ⌜ name (now (self .exit) .first) ≡ name (now (self .entry) .first) ⌝ }
     {
         self.session.rest();
         let bytes = payload_of_size(announcement.size, command, host)?;
-        self.first.add(announcement.number, &new_file(announcement), bytes)?;
+        self.first
+            .add(announcement.number, &new_file(announcement), bytes)?;
         Ok(Parameters::none())
     }
 
     /// SendObject.
-    fn send_object(&mut self, session: OpenSession, command: &Command, host: &[u8]) -> Result<Parameters, OperationFault>
+    fn send_object(
+        &mut self,
+        session: OpenSession,
+        command: &Command,
+        host: &[u8],
+    ) -> Result<Parameters, OperationFault>
         requires { ⌜ now self .session .session ≡ Open session ⌝ }
         ensures acted { λ r. ⌜ Acted (state-of W·ReadStore W·WriteStore R·ReadStore (now (self .entry)) .storages) (object-sent (state-of W·ReadStore W·WriteStore R·ReadStore (now (self .entry)) .storages) session (now (command .entry)) (now (host .entry))) r (state-of W·ReadStore W·WriteStore R·ReadStore (now (self .exit))) ⌝ }
         ensures lender { λ _. ⌜ name (now (self .exit) .first) ≡ name (now (self .entry) .first) ⌝ }
     {
         match session.transfer {
-            Transfer::Announced(announcement) => self.store_object(session, &announcement, command, host),
+            Transfer::Announced(announcement) => self.store_object(
+                session,
+                &announcement,
+                command,
+                host,
+            ),
             Transfer::Idle => Err(OperationFault::NoObjectInfo),
         }
     }

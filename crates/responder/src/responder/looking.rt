@@ -61,10 +61,7 @@ pub(crate) fn shown(
 }
 
 /// GetDeviceInfo.
-pub(crate) fn get_device_info(
-    command: &Command,
-    buffer: &mut [u8],
-) -> Result<Done, OperationFault>
+pub(crate) fn get_device_info(command: &Command, buffer: &mut [u8]) -> Result<Done, OperationFault>
     ensures { λ r. ⌜ (result-told r, now (buffer .exit)) ≡ shown-in (now (command .entry)) device-shown (now (buffer .entry)) ⌝ }
 {
     let written = write_device_info(buffer, command.code, command.transaction);
@@ -72,10 +69,7 @@ pub(crate) fn get_device_info(
 }
 
 /// GetStorageIDs.
-pub(crate) fn get_storage_ids(
-    command: &Command,
-    buffer: &mut [u8],
-) -> Result<Done, OperationFault>
+pub(crate) fn get_storage_ids(command: &Command, buffer: &mut [u8]) -> Result<Done, OperationFault>
     ensures { λ r. ⌜ (result-told r, now (buffer .exit)) ≡ shown-in (now (command .entry)) storages-shown (now (buffer .entry)) ⌝ }
 {
     let written = write_array(
@@ -189,11 +183,7 @@ fn part_length(offset: u32, maximum: u32, file: &FileInfo) -> u32
     ensures { λ r. ⌜ r ≡ min maximum (now (file .entry) .length - offset) ⌝ }
 {
     let rest = file.length - offset;
-    if maximum < rest {
-        maximum
-    } else {
-        rest
-    }
+    if maximum < rest { maximum } else { rest }
 }
 
 impl<'w, 'r, W: WriteStore, R: ReadStore> Responder<'w, 'r, W, R> {
@@ -209,7 +199,14 @@ impl<'w, 'r, W: WriteStore, R: ReadStore> Responder<'w, 'r, W, R> {
     }
 
     /// Writes a data container of `len` bytes of a file from `offset` on.
-    fn write_part(&self, command: &Command, handle: u32, offset: u32, len: usize, buffer: &mut [u8]) -> Result<usize, DatasetFault>
+    fn write_part(
+        &self,
+        command: &Command,
+        handle: u32,
+        offset: u32,
+        len: usize,
+        buffer: &mut [u8],
+    ) -> Result<usize, DatasetFault>
         requires { ⌜ length (part offset len (bytes-of (object-at (state-of W·ReadStore W·WriteStore R·ReadStore (now self) .storages) handle))) ≡ len ⌝ }
         ensures { λ r. ⌜ (r, now (buffer .exit)) ≡ placed (data-of (now (command .entry)) (part offset len (bytes-of (object-at (state-of W·ReadStore W·WriteStore R·ReadStore (now (self .entry)) .storages) handle)))) (now (buffer .entry)) ⌝ }
     {
@@ -241,7 +238,11 @@ impl<'w, 'r, W: WriteStore, R: ReadStore> Responder<'w, 'r, W, R> {
     }
 
     /// GetPartialObject.
-    fn get_partial_object(&self, command: &Command, buffer: &mut [u8]) -> Result<Done, OperationFault>
+    fn get_partial_object(
+        &self,
+        command: &Command,
+        buffer: &mut [u8],
+    ) -> Result<Done, OperationFault>
         ensures { λ r. ⌜ (result-told r, now (buffer .exit)) ≡ shown-in (now (command .entry)) (part-shown (state-of W·ReadStore W·WriteStore R·ReadStore (now (self .entry)) .storages) (parameter 1 (now (command .entry))) (parameter 2 (now (command .entry))) (parameter 3 (now (command .entry)))) (now (buffer .entry)) ⌝ }
     {
         let handle = command.parameters[0];

@@ -8,4 +8,5 @@ pub returns : need.returns
 unfolding unplugged
 returns g c = record {
   state = ap (λ s. record { storages = storages-of (g .W·ReadStore) (g .W·WriteStore) (g .R·ReadStore) (now (c .args .self .now .first)) (now (c .args .self .now .second)); session = s }) (c .close .ensures);
-  lender = refl }
+  lender = refl;
+}

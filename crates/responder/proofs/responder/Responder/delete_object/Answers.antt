@@ -23,8 +23,8 @@ returns-in-Break-deletable g c =
     let q = err-from-errBy (c .from-residual .result) (c .from-residual .ensures .1) in
     record {
       acted = acted-refused p _ _ _ (Open s) _ (q .1 ∙ ap Err (q .2))
-        (ap (settled (p .first) (Open s)) (checks-refused (and-then (removed (p .locked) h (p .first)) of-store (λ d. accepts [] d (Open s))) (eqb (c .args .format) 0) (object-at p h) (ltb h second-base) _ (c .in-Break-deletable .ensures tt)))
-        (state-same p refl refl (c .pre));
+          (ap (settled (p .first) (Open s)) (checks-refused (and-then (removed (p .locked) h (p .first)) of-store (λ d. accepts [] d (Open s))) (eqb (c .args .format) 0) (object-at p h) (ltb h second-base) _ (c .in-Break-deletable .ensures tt)))
+          (state-same p refl refl (c .pre));
       lender = refl;
     }
 
@@ -39,10 +39,10 @@ returns-in-Break-remove g c =
     let e = c .in-Break-remove .ensures tt in
     record {
       acted = acted-refused p _ _ _ (Open s) _ (q .1 ∙ ap Err (q .2))
-        (ap (settled (p .first) (Open s))
-        (checks-passed (and-then v of-store (λ d. accepts [] d (Open s))) (eqb (c .args .format) 0) (object-at p h) (ltb h second-base) (c .in-Continue-deletable .ensures tt)
-        ∙ ap (λ w. and-then w of-store (λ d. accepts [] d (Open s))) (change-refused v _ (e .result))))
-        (state-same p (change-left v (p .first) _ _ (e .result) (e .contents)) (e .lock) (c .pre));
+          (ap (settled (p .first) (Open s))
+          (checks-passed (and-then v of-store (λ d. accepts [] d (Open s))) (eqb (c .args .format) 0) (object-at p h) (ltb h second-base) (c .in-Continue-deletable .ensures tt)
+          ∙ ap (λ w. and-then w of-store (λ d. accepts [] d (Open s))) (change-refused v _ (e .result))))
+          (state-same p (change-left v (p .first) _ _ (e .result) (e .contents)) (e .lock) (c .pre));
       lender = refl;
     }
 
@@ -56,10 +56,10 @@ returns g c =
     let e = c .in-Continue-remove .ensures tt in
     record {
       acted = acted-accepted p _ _ _ (Open s) (Open s) [] _
-        (ap (settled (p .first) (Open s))
-        (checks-passed (and-then v of-store (λ d. accepts [] d (Open s))) (eqb (c .args .format) 0) (object-at p h) (ltb h second-base) (c .in-Continue-deletable .ensures tt)
-        ∙ ap (λ w. and-then w of-store (λ d. accepts [] d (Open s))) (change-taken v (p .first) _ (e .result) (e .contents))))
-        (c .none .ensures)
-        (state-same p refl (e .lock) (c .pre));
+          (ap (settled (p .first) (Open s))
+          (checks-passed (and-then v of-store (λ d. accepts [] d (Open s))) (eqb (c .args .format) 0) (object-at p h) (ltb h second-base) (c .in-Continue-deletable .ensures tt)
+          ∙ ap (λ w. and-then w of-store (λ d. accepts [] d (Open s))) (change-taken v (p .first) _ (e .result) (e .contents))))
+          (c .none .ensures)
+          (state-same p refl (e .lock) (c .pre));
       lender = refl;
     }

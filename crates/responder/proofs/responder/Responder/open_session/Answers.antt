@@ -23,8 +23,8 @@ returns-then-id-eq0 g c =
     let id = c .args .id in
     record {
       acted = acted-refused p _ _ _ Closed InvalidParameter refl
-        (ap (λ t. settled (p .first) Closed (provided (not t) InvalidParameter (accepts [] (p .first) (Open (record { id = id; expected = 1; next = past-last 1 (p .first .files); transfer = Idle }))))) (eq-eqb id 0 (c .if-id-eq0 .taken)))
-        (state-same p refl refl (c .pre));
+          (ap (λ t. settled (p .first) Closed (provided (not t) InvalidParameter (accepts [] (p .first) (Open (record { id = id; expected = 1; next = past-last 1 (p .first .files); transfer = Idle }))))) (eq-eqb id 0 (c .if-id-eq0 .taken)))
+          (state-same p refl refl (c .pre));
       lender = refl;
     }
 
@@ -35,8 +35,8 @@ returns g c =
     let id = c .args .id in
     record {
       acted = acted-accepted p _ _ _ (Open (record { id = id; expected = 1; next = past-last 1 (p .first .files); transfer = Idle })) Closed [] (p .first)
-        (ap (λ t. settled (p .first) Closed (provided (not t) InvalidParameter (accepts [] (p .first) (Open (record { id = id; expected = 1; next = past-last 1 (p .first .files); transfer = Idle }))))) (ne-eqb id 0 (c .if-id-eq0 .left)))
-        (c .none .ensures)
-        (state-same p refl refl (c .open .ensures ∙ ap (λ n. Open (record { id = id; expected = 1; next = n; transfer = Idle })) (c .next-number-next .ensures)));
+          (ap (λ t. settled (p .first) Closed (provided (not t) InvalidParameter (accepts [] (p .first) (Open (record { id = id; expected = 1; next = past-last 1 (p .first .files); transfer = Idle }))))) (ne-eqb id 0 (c .if-id-eq0 .left)))
+          (c .none .ensures)
+          (state-same p refl refl (c .open .ensures ∙ ap (λ n. Open (record { id = id; expected = 1; next = n; transfer = Idle })) (c .next-number-next .ensures)));
       lender = refl;
     }

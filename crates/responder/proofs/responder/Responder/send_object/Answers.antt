@@ -14,7 +14,7 @@ returns-in-Announced g c =
     let p = storages-of (g .W·ReadStore) (g .W·WriteStore) (g .R·ReadStore) (now (c .args .self .now .first)) (now (c .args .self .now .second)) in
     record {
       acted = subst (λ t. Acted p (sent-for p (c .args .session) (now (c .args .command)) (now (c .args .host)) (announcement-in t)) (c .store-object .result) (state-of (g .W·ReadStore) (g .W·WriteStore) (g .R·ReadStore) (c .store-object .last .self)))
-        (sym (c .in-Announced .is)) (c .store-object .ensures .acted);
+          (sym (c .in-Announced .is)) (c .store-object .ensures .acted);
       lender = c .store-object .ensures .lender;
     }
 
@@ -24,7 +24,7 @@ returns-in-Idle g c =
     let p = storages-of (g .W·ReadStore) (g .W·WriteStore) (g .R·ReadStore) (now (c .args .self .now .first)) (now (c .args .self .now .second)) in
     record {
       acted = acted-refused p _ _ _ (Open (c .args .session)) NoObjectInfo refl
-        (ap (λ t. sent-for p (c .args .session) (now (c .args .command)) (now (c .args .host)) (announcement-in t)) (c .in-Idle .is))
-        (state-same p refl refl (c .pre));
+          (ap (λ t. sent-for p (c .args .session) (now (c .args .command)) (now (c .args .host)) (announcement-in t)) (c .in-Idle .is))
+          (state-same p refl refl (c .pre));
       lender = refl;
     }

@@ -19,8 +19,8 @@ returns-in-Break-announcement g c =
     let q = err-from-errBy (c .from-residual .result) (c .from-residual .ensures .1) in
     record {
       acted = acted-refused p _ _ _ (Open s) _ (q .1 ∙ ap Err (q .2))
-        (info-is p s k (now (c .args .host)) ∙ ap (λ r. settled (p .first) (Open s) (bind (announced p s (info-told s k)) r)) (sym (c .in-Break-announcement .ensures tt .value)))
-        (state-same p refl refl (c .pre));
+          (info-is p s k (now (c .args .host)) ∙ ap (λ r. settled (p .first) (Open s) (bind (announced p s (info-told s k)) r)) (sym (c .in-Break-announcement .ensures tt .value)))
+          (state-same p refl refl (c .pre));
       lender = refl;
     }
 
@@ -31,8 +31,8 @@ returns g c =
     let k = now (c .args .command) in
     record {
       acted = subst (λ o. Acted p o (c .announce .result) (state-of (g .W·ReadStore) (g .W·WriteStore) (g .R·ReadStore) (c .announce .last .self)))
-        (ap (λ t. settled (p .first) (Open s) (announced p s t (c .in-Continue-announcement .announcement))) (c .three-told .ensures ∙ ap (λ n. first-storage ∷ n ∷ s .next ∷ []) (c .parent-told .ensures))
-        ∙ sym (info-is p s k (now (c .args .host)) ∙ ap (λ r. settled (p .first) (Open s) (bind (announced p s (info-told s k)) r)) (sym (c .in-Continue-announcement .ensures tt .value))))
-        (c .announce .ensures .acted);
+          (ap (λ t. settled (p .first) (Open s) (announced p s t (c .in-Continue-announcement .announcement))) (c .three-told .ensures ∙ ap (λ n. first-storage ∷ n ∷ s .next ∷ []) (c .parent-told .ensures))
+          ∙ sym (info-is p s k (now (c .args .host)) ∙ ap (λ r. settled (p .first) (Open s) (bind (announced p s (info-told s k)) r)) (sym (c .in-Continue-announcement .ensures tt .value))))
+          (c .announce .ensures .acted);
       lender = c .announce .ensures .lender;
     }
