@@ -6,3 +6,4 @@ pub mod Bodies
 pub mod Walks
 pub mod Acts
 pub mod Listings
+pub mod Performing

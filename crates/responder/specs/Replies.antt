@@ -8,6 +8,7 @@ use Rattle.std.specs.declared.result.Result.the-variants.{Ok, Err}
 use Rattle.bytes.specs.Parts.{over}
 use Rattle.wire.specs.Containers.{response}
 use Rattle.wire.specs.Parameters.{listed}
+use Rattle.wire.specs.declared.command.Command.{Command}
 use Rattle.protocol.specs.declared.fault.OperationFault.{OperationFault}
 use Rattle.protocol.specs.Faults.{ok, operation-fault-number, parameters-of}
 use Rattle.protocol.specs.Machine as machine
@@ -52,4 +53,10 @@ told-of transaction (Err f) = record { code = operation-fault-number f; transact
 pub record Replied (a : machine.Answer) (r : Reply) (was later : List ℕ) (b : machine.State) : Type 0 where
   pub reply : told r ≡ told-by (a .reply)
   pub response : later ≡ over (machine.response-of (a .reply)) was
+  pub state : b ≡ a .state
+
+-- the result, the buffer and the state are as the session machine has them
+pub record Performed (a : machine.Answer) (c : Command) (r : Result Done OperationFault) (was later : List ℕ) (b : machine.State) : Type 0 where
+  pub reply : told-of (c .transaction) (result-told r) ≡ told-by (a .reply)
+  pub buffer : later ≡ over (a .reply .sent) was
   pub state : b ≡ a .state

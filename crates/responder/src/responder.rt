@@ -2,6 +2,7 @@
 mod acting;
 mod listing;
 mod looking;
+mod performing;
 
 ghost use mathlib.Core.Path.{_≡_};
 ghost use denote.Ref.{name};

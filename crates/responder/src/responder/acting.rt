@@ -248,7 +248,7 @@ impl<'w, 'r, W: WriteStore, R: ReadStore> Responder<'w, 'r, W, R> {
     }
 
     /// SendObjectInfo.
-    fn send_object_info(
+    pub(crate) fn send_object_info(
         &mut self,
         session: OpenSession,
         command: &Command,
@@ -274,7 +274,7 @@ impl<'w, 'r, W: WriteStore, R: ReadStore> Responder<'w, 'r, W, R> {
     }
 
     /// OpenSession.
-    fn open_session(&mut self, id: u32) -> Result<Parameters, OperationFault>
+    pub(crate) fn open_session(&mut self, id: u32) -> Result<Parameters, OperationFault>
         requires { ⌜ now self .session .session ≡ Closed ⌝ }
         ensures acted { λ r. ⌜ Acted (state-of W·ReadStore W·WriteStore R·ReadStore (now (self .entry)) .storages) (session-opened (state-of W·ReadStore W·WriteStore R·ReadStore (now (self .entry)) .storages) id) r (state-of W·ReadStore W·WriteStore R·ReadStore (now (self .exit))) ⌝ }
         ensures lender { λ _. ⌜ name (now (self .exit) .first) ≡ name (now (self .entry) .first) ⌝ }
@@ -288,7 +288,7 @@ impl<'w, 'r, W: WriteStore, R: ReadStore> Responder<'w, 'r, W, R> {
     }
 
     /// CloseSession.
-    fn close_session(&mut self) -> Result<Parameters, OperationFault>
+    pub(crate) fn close_session(&mut self) -> Result<Parameters, OperationFault>
         ensures acted { λ r. ⌜ Acted (state-of W·ReadStore W·WriteStore R·ReadStore (now (self .entry)) .storages) (session-closed (state-of W·ReadStore W·WriteStore R·ReadStore (now (self .entry)) .storages)) r (state-of W·ReadStore W·WriteStore R·ReadStore (now (self .exit))) ⌝ }
         ensures lender { λ _. ⌜ name (now (self .exit) .first) ≡ name (now (self .entry) .first) ⌝ }
     {
@@ -314,7 +314,7 @@ impl<'w, 'r, W: WriteStore, R: ReadStore> Responder<'w, 'r, W, R> {
     }
 
     /// DeleteObject.
-    fn delete_object(
+    pub(crate) fn delete_object(
         &mut self,
         session: OpenSession,
         handle: u32,
@@ -349,7 +349,7 @@ impl<'w, 'r, W: WriteStore, R: ReadStore> Responder<'w, 'r, W, R> {
     }
 
     /// SendObject.
-    fn send_object(
+    pub(crate) fn send_object(
         &mut self,
         session: OpenSession,
         command: &Command,

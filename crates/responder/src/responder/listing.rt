@@ -194,7 +194,7 @@ impl<'w, 'r, W: WriteStore, R: ReadStore> Responder<'w, 'r, W, R> {
     }
 
     /// GetObjectHandles.
-    fn get_object_handles(
+    pub(crate) fn get_object_handles(
         &self,
         command: &Command,
         buffer: &mut [u8],

@@ -128,7 +128,7 @@ impl<'w, 'r, W: WriteStore, R: ReadStore> Responder<'w, 'r, W, R> {
     }
 
     /// GetStorageInfo.
-    fn get_storage_info(&self, command: &Command, buffer: &mut [u8]) -> Result<Done, OperationFault>
+    pub(crate) fn get_storage_info(&self, command: &Command, buffer: &mut [u8]) -> Result<Done, OperationFault>
         ensures { λ r. ⌜ (result-told r, now (buffer .exit)) ≡ shown-in (now (command .entry)) (storage-shown (state-of W·ReadStore W·WriteStore R·ReadStore (now (self .entry)) .storages) (parameter 1 (now (command .entry)))) (now (buffer .entry)) ⌝ }
     {
         let info = self.storage_info(command.parameters[0])?;
@@ -159,7 +159,7 @@ impl<'w, 'r, W: WriteStore, R: ReadStore> Responder<'w, 'r, W, R> {
     }
 
     /// GetObjectInfo.
-    fn get_object_info(&self, command: &Command, buffer: &mut [u8]) -> Result<Done, OperationFault>
+    pub(crate) fn get_object_info(&self, command: &Command, buffer: &mut [u8]) -> Result<Done, OperationFault>
         ensures { λ r. ⌜ (result-told r, now (buffer .exit)) ≡ shown-in (now (command .entry)) (info-shown (state-of W·ReadStore W·WriteStore R·ReadStore (now (self .entry)) .storages) (parameter 1 (now (command .entry)))) (now (buffer .entry)) ⌝ }
     {
         let handle = command.parameters[0];
@@ -228,7 +228,7 @@ impl<'w, 'r, W: WriteStore, R: ReadStore> Responder<'w, 'r, W, R> {
     }
 
     /// GetObject.
-    fn get_object(&self, command: &Command, buffer: &mut [u8]) -> Result<Done, OperationFault>
+    pub(crate) fn get_object(&self, command: &Command, buffer: &mut [u8]) -> Result<Done, OperationFault>
         ensures { λ r. ⌜ (result-told r, now (buffer .exit)) ≡ shown-in (now (command .entry)) (object-shown (state-of W·ReadStore W·WriteStore R·ReadStore (now (self .entry)) .storages) (parameter 1 (now (command .entry)))) (now (buffer .entry)) ⌝ }
     {
         let handle = command.parameters[0];
@@ -238,7 +238,7 @@ impl<'w, 'r, W: WriteStore, R: ReadStore> Responder<'w, 'r, W, R> {
     }
 
     /// GetPartialObject.
-    fn get_partial_object(
+    pub(crate) fn get_partial_object(
         &self,
         command: &Command,
         buffer: &mut [u8],
