@@ -7,3 +7,4 @@ pub mod Walks
 pub mod Acts
 pub mod Listings
 pub mod Performing
+pub mod Laws

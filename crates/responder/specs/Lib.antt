@@ -5,3 +5,4 @@ pub mod States
 pub mod Looks
 pub mod Acts
 pub mod Listings
+pub mod Laws

@@ -60,3 +60,10 @@ pub record Performed (a : machine.Answer) (c : Command) (r : Result Done Operati
   pub reply : told-of (c .transaction) (result-told r) ≡ told-by (a .reply)
   pub buffer : later ≡ over (a .reply .sent) was
   pub state : b ≡ a .state
+
+-- the reply, the 32 bytes, the buffer and the state are as the session machine has them
+pub record Answered (a : machine.Answer) (r : Reply) (was later buffer-was buffer-later : List ℕ) (b : machine.State) : Type 0 where
+  pub reply : told r ≡ told-by (a .reply)
+  pub response : later ≡ over (machine.response-of (a .reply)) was
+  pub buffer : buffer-later ≡ over (a .reply .sent) buffer-was
+  pub state : b ≡ a .state
