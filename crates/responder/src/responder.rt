@@ -60,7 +60,13 @@ impl<'w, 'r, W: WriteStore, R: ReadStore> Responder<'w, 'r, W, R> {
     }
 
     /// Does what a command asks for.
-    fn serve(&mut self, command: &Command, host: &[u8], buffer: &mut [u8], response: &mut [u8; 32]) -> Reply
+    fn serve(
+        &mut self,
+        command: &Command,
+        host: &[u8],
+        buffer: &mut [u8],
+        response: &mut [u8; 32],
+    ) -> Reply
         ensures answered { λ r. ⌜ Answered (answered (state-of W·ReadStore W·WriteStore R·ReadStore (now (self .entry))) (now (command .entry)) (now (host .entry)) (length (now (buffer .entry)))) r (now (response .entry)) (now (response .exit)) (now (buffer .entry)) (now (buffer .exit)) (state-of W·ReadStore W·WriteStore R·ReadStore (now (self .exit))) ⌝ }
         ensures lender { λ _. ⌜ name (now (self .exit) .first) ≡ name (now (self .entry) .first) ⌝ }
     {
@@ -91,7 +97,13 @@ impl<'w, 'r, W: WriteStore, R: ReadStore> Responder<'w, 'r, W, R> {
 
     /// Answers a command, whose data are `host`. The response goes to the front of `response`, a data container to the front of
     /// `buffer`; the rest of both stays.
-    pub fn answer(&mut self, command: PendingCommand, host: &[u8], buffer: &mut [u8], response: &mut [u8; 32]) -> Reply
+    pub fn answer(
+        &mut self,
+        command: PendingCommand,
+        host: &[u8],
+        buffer: &mut [u8],
+        response: &mut [u8; 32],
+    ) -> Reply
         ensures reply { λ r. ⌜ told r ≡ told-by ((answered (state-of W·ReadStore W·WriteStore R·ReadStore (now (self .entry))) (command .command) (now (host .entry)) (length (now (buffer .entry)))) .reply) ⌝ }
         ensures response { λ _. ⌜ now (response .exit) ≡ over (response-of ((answered (state-of W·ReadStore W·WriteStore R·ReadStore (now (self .entry))) (command .command) (now (host .entry)) (length (now (buffer .entry)))) .reply)) (now (response .entry)) ⌝ }
         ensures buffer { λ _. ⌜ now (buffer .exit) ≡ over ((answered (state-of W·ReadStore W·WriteStore R·ReadStore (now (self .entry))) (command .command) (now (host .entry)) (length (now (buffer .entry)))) .reply .sent) (now (buffer .entry)) ⌝ }

@@ -128,7 +128,11 @@ impl<'w, 'r, W: WriteStore, R: ReadStore> Responder<'w, 'r, W, R> {
     }
 
     /// GetStorageInfo.
-    pub(crate) fn get_storage_info(&self, command: &Command, buffer: &mut [u8]) -> Result<Done, OperationFault>
+    pub(crate) fn get_storage_info(
+        &self,
+        command: &Command,
+        buffer: &mut [u8],
+    ) -> Result<Done, OperationFault>
         ensures { λ r. ⌜ (result-told r, now (buffer .exit)) ≡ shown-in (now (command .entry)) (storage-shown (state-of W·ReadStore W·WriteStore R·ReadStore (now (self .entry)) .storages) (parameter 1 (now (command .entry)))) (now (buffer .entry)) ⌝ }
     {
         let info = self.storage_info(command.parameters[0])?;
@@ -159,7 +163,11 @@ impl<'w, 'r, W: WriteStore, R: ReadStore> Responder<'w, 'r, W, R> {
     }
 
     /// GetObjectInfo.
-    pub(crate) fn get_object_info(&self, command: &Command, buffer: &mut [u8]) -> Result<Done, OperationFault>
+    pub(crate) fn get_object_info(
+        &self,
+        command: &Command,
+        buffer: &mut [u8],
+    ) -> Result<Done, OperationFault>
         ensures { λ r. ⌜ (result-told r, now (buffer .exit)) ≡ shown-in (now (command .entry)) (info-shown (state-of W·ReadStore W·WriteStore R·ReadStore (now (self .entry)) .storages) (parameter 1 (now (command .entry)))) (now (buffer .entry)) ⌝ }
     {
         let handle = command.parameters[0];
@@ -228,7 +236,11 @@ impl<'w, 'r, W: WriteStore, R: ReadStore> Responder<'w, 'r, W, R> {
     }
 
     /// GetObject.
-    pub(crate) fn get_object(&self, command: &Command, buffer: &mut [u8]) -> Result<Done, OperationFault>
+    pub(crate) fn get_object(
+        &self,
+        command: &Command,
+        buffer: &mut [u8],
+    ) -> Result<Done, OperationFault>
         ensures { λ r. ⌜ (result-told r, now (buffer .exit)) ≡ shown-in (now (command .entry)) (object-shown (state-of W·ReadStore W·WriteStore R·ReadStore (now (self .entry)) .storages) (parameter 1 (now (command .entry)))) (now (buffer .entry)) ⌝ }
     {
         let handle = command.parameters[0];

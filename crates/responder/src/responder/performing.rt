@@ -33,7 +33,13 @@ use wire::operation::SEND_OBJECT_INFO;
 
 impl<'w, 'r, W: WriteStore, R: ReadStore> Responder<'w, 'r, W, R> {
     /// What an operation does in an open session.
-    fn perform_open(&mut self, session: OpenSession, command: &Command, host: &[u8], buffer: &mut [u8]) -> Result<Done, OperationFault>
+    fn perform_open(
+        &mut self,
+        session: OpenSession,
+        command: &Command,
+        host: &[u8],
+        buffer: &mut [u8],
+    ) -> Result<Done, OperationFault>
         requires { ⌜ now self .session .session ≡ Open session ⌝ }
         ensures performed { λ r. ⌜ Performed (performed (task-of (now (command .entry) .code)) (state-of W·ReadStore W·WriteStore R·ReadStore (now (self .entry)) .storages) session (now (command .entry)) (now (host .entry)) (length (now (buffer .entry)))) (now (command .entry)) r (now (buffer .entry)) (now (buffer .exit)) (state-of W·ReadStore W·WriteStore R·ReadStore (now (self .exit))) ⌝ }
         ensures lender { λ _. ⌜ name (now (self .exit) .first) ≡ name (now (self .entry) .first) ⌝ }
@@ -46,7 +52,11 @@ impl<'w, 'r, W: WriteStore, R: ReadStore> Responder<'w, 'r, W, R> {
             GET_OBJECT_HANDLES => self.get_object_handles(command, buffer),
             GET_OBJECT_INFO => self.get_object_info(command, buffer),
             GET_OBJECT => self.get_object(command, buffer),
-            DELETE_OBJECT => silent(self.delete_object(session, command.parameters[0], command.parameters[1])),
+            DELETE_OBJECT => silent(self.delete_object(
+                session,
+                command.parameters[0],
+                command.parameters[1],
+            )),
             SEND_OBJECT_INFO => silent(self.send_object_info(session, command, host)),
             SEND_OBJECT => silent(self.send_object(session, command, host)),
             GET_PARTIAL_OBJECT => self.get_partial_object(command, buffer),
@@ -55,7 +65,11 @@ impl<'w, 'r, W: WriteStore, R: ReadStore> Responder<'w, 'r, W, R> {
     }
 
     /// What an operation does while no session is open.
-    fn perform_closed(&mut self, command: &Command, buffer: &mut [u8]) -> Result<Done, OperationFault>
+    fn perform_closed(
+        &mut self,
+        command: &Command,
+        buffer: &mut [u8],
+    ) -> Result<Done, OperationFault>
         requires { ⌜ now self .session .session ≡ Closed ⌝ }
         ensures performed { λ r. ⌜ Performed (performed-closed (state-of W·ReadStore W·WriteStore R·ReadStore (now (self .entry)) .storages) (now (command .entry)) (length (now (buffer .entry)))) (now (command .entry)) r (now (buffer .entry)) (now (buffer .exit)) (state-of W·ReadStore W·WriteStore R·ReadStore (now (self .exit))) ⌝ }
         ensures lender { λ _. ⌜ name (now (self .exit) .first) ≡ name (now (self .entry) .first) ⌝ }
@@ -67,7 +81,12 @@ impl<'w, 'r, W: WriteStore, R: ReadStore> Responder<'w, 'r, W, R> {
     }
 
     /// The session's own steps, the check for surplus parameters, and the operation.
-    pub(crate) fn perform(&mut self, command: &Command, host: &[u8], buffer: &mut [u8]) -> Result<Done, OperationFault>
+    pub(crate) fn perform(
+        &mut self,
+        command: &Command,
+        host: &[u8],
+        buffer: &mut [u8],
+    ) -> Result<Done, OperationFault>
         ensures performed { λ r. ⌜ Performed (answered (state-of W·ReadStore W·WriteStore R·ReadStore (now (self .entry))) (now (command .entry)) (now (host .entry)) (length (now (buffer .entry)))) (now (command .entry)) r (now (buffer .entry)) (now (buffer .exit)) (state-of W·ReadStore W·WriteStore R·ReadStore (now (self .exit))) ⌝ }
         ensures lender { λ _. ⌜ name (now (self .exit) .first) ≡ name (now (self .entry) .first) ⌝ }
     {

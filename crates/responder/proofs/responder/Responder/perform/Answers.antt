@@ -26,8 +26,8 @@ returns-in-Break-admitted g c =
     let e = c .in-Break-admitted .ensures tt in
     record {
       performed = subst (λ a. Performed a k (c .from-residual .result) buffer buffer (state-of (g .W·ReadStore) (g .W·WriteStore) (g .R·ReadStore) (record { first = c .args .self .now .first; second = c .args .self .now .second; session = c .admit .last .self })))
-        (sym (gate-stops v _ p k host (length buffer) (e .result)))
-        (refused-performed p (session-at v) k _ (c .from-residual .result) buffer _ (q .1 ∙ ap Err (q .2)) (state-same p refl refl (e .after)));
+          (sym (gate-stops v _ p k host (length buffer) (e .result)))
+          (refused-performed p (session-at v) k _ (c .from-residual .result) buffer _ (q .1 ∙ ap Err (q .2)) (state-same p refl refl (e .after)));
       lender = refl;
     }
 
@@ -44,8 +44,8 @@ returns-then-has-surplus g c =
     let is = ap (λ z. served z p k host (length buffer)) w ∙ ap (λ t. cond t (refused ParameterNotSupported p (Closed) k) (performed-closed p k (length buffer))) (sym (c .if-has-surplus .ensures tt)) in
     record {
       performed = subst (λ a. Performed a k (Err ParameterNotSupported) buffer buffer (state-of (g .W·ReadStore) (g .W·WriteStore) (g .R·ReadStore) (record { first = c .args .self .now .first; second = c .args .self .now .second; session = c .admit .last .self })))
-        (sym is)
-        (refused-performed p (Closed) k ParameterNotSupported (Err ParameterNotSupported) buffer _ refl (state-same p refl refl (e .after ∙ ap session-at w)));
+          (sym is)
+          (refused-performed p (Closed) k ParameterNotSupported (Err ParameterNotSupported) buffer _ refl (state-same p refl refl (e .after ∙ ap session-at w)));
       lender = refl;
     }
 
@@ -62,7 +62,7 @@ returns-else-has-surplus g c =
     let is = ap (λ z. served z p k host (length buffer)) w ∙ ap (λ t. cond t (refused ParameterNotSupported p (Closed) k) (performed-closed p k (length buffer))) (sym (c .if-has-surplus .ensures tt)) in
     record {
       performed = subst (λ a. Performed a k (c .perform-closed .result) buffer (c .perform-closed .last .buffer) (state-of (g .W·ReadStore) (g .W·WriteStore) (g .R·ReadStore) (c .perform-closed .last .self)))
-        (sym is) (c .perform-closed .ensures .performed);
+          (sym is) (c .perform-closed .ensures .performed);
       lender = c .perform-closed .ensures .lender;
     }
 
@@ -79,8 +79,8 @@ returns-then-has-surplus-2 g c =
     let is = ap (λ z. served z p k host (length buffer)) w ∙ ap (λ t. cond t (refused ParameterNotSupported p (Open (c .in-WhileOpen .session)) k) (performed (task-of (k .code)) p (c .in-WhileOpen .session) k host (length buffer))) (sym (c .if-has-surplus-2 .ensures tt)) in
     record {
       performed = subst (λ a. Performed a k (Err ParameterNotSupported) buffer buffer (state-of (g .W·ReadStore) (g .W·WriteStore) (g .R·ReadStore) (record { first = c .args .self .now .first; second = c .args .self .now .second; session = c .admit .last .self })))
-        (sym is)
-        (refused-performed p (Open (c .in-WhileOpen .session)) k ParameterNotSupported (Err ParameterNotSupported) buffer _ refl (state-same p refl refl (e .after ∙ ap session-at w)));
+          (sym is)
+          (refused-performed p (Open (c .in-WhileOpen .session)) k ParameterNotSupported (Err ParameterNotSupported) buffer _ refl (state-same p refl refl (e .after ∙ ap session-at w)));
       lender = refl;
     }
 
@@ -97,6 +97,6 @@ returns-else-has-surplus-2 g c =
     let is = ap (λ z. served z p k host (length buffer)) w ∙ ap (λ t. cond t (refused ParameterNotSupported p (Open (c .in-WhileOpen .session)) k) (performed (task-of (k .code)) p (c .in-WhileOpen .session) k host (length buffer))) (sym (c .if-has-surplus-2 .ensures tt)) in
     record {
       performed = subst (λ a. Performed a k (c .perform-open .result) buffer (c .perform-open .last .buffer) (state-of (g .W·ReadStore) (g .W·WriteStore) (g .R·ReadStore) (c .perform-open .last .self)))
-        (sym is) (c .perform-open .ensures .performed);
+          (sym is) (c .perform-open .ensures .performed);
       lender = c .perform-open .ensures .lender;
     }
