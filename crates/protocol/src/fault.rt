@@ -1,6 +1,8 @@
 //! Why an operation is refused, each with its number on the wire.
 ghost use mathlib.Core.Path.{_≡_};
-ghost use Rattle.protocol.specs.Faults.{operation-fault-number};
+ghost use Rattle.protocol.specs.Faults.{operation-fault-number, of-store, of-dataset};
+use store::fault::StoreFault;
+use wire::fault::DatasetFault;
 
 /// Why an operation is refused.
 #[derive(Clone, Copy)]
@@ -58,6 +60,34 @@ impl OperationFault {
             OperationFault::TransactionCancelled => 0x201f,
             OperationFault::InvalidDataset => 0xa806,
             OperationFault::ObjectTooLarge => 0xa809,
+        }
+    }
+}
+
+pub impl From<StoreFault> for OperationFault as FaultOfStore {
+    ghost converts = { λ f r. r ≡ of-store f };
+
+    fn from(fault: StoreFault) -> OperationFault {
+        match fault {
+            StoreFault::ReadOnly => OperationFault::StoreReadOnly,
+            StoreFault::InvalidDataset => OperationFault::InvalidDataset,
+            StoreFault::NumberTaken => OperationFault::InvalidParameter,
+            StoreFault::InvalidParent => OperationFault::InvalidParent,
+            StoreFault::Full => OperationFault::StoreFull,
+            StoreFault::Absent => OperationFault::InvalidHandle,
+            StoreFault::HasChildren => OperationFault::AccessDenied,
+        }
+    }
+}
+
+pub impl From<DatasetFault> for OperationFault as FaultOfDataset {
+    ghost converts = { λ f r. r ≡ of-dataset f };
+
+    fn from(fault: DatasetFault) -> OperationFault {
+        match fault {
+            DatasetFault::IncompleteTransfer => OperationFault::IncompleteTransfer,
+            DatasetFault::InvalidDataset => OperationFault::InvalidDataset,
+            DatasetFault::BufferTooShort => OperationFault::GeneralError,
         }
     }
 }

@@ -1,0 +1,16 @@
+use mathlib.Core.Path.{ap}
+use mathlib.Core.Bool.{cond}
+use mathlib.Core.List.{[]}
+use native.Mathlib.Omega.{arith}
+use denote.Ref.{now}
+use Rattle.wire.specs.Containers.{numbers}
+use Rattle.wire.proofs.Puts.{put-none, put-same}
+use Rattle.protocol.specs.Looking.{handles-on}
+use Rattle.responder.specs.Listings.{listed-in}
+use Rattle.responder.proofs.responder.Responder.put_second.Needs as need
+
+pub returns-else-names : need.returns-else-names
+returns-else-names g c =
+    let es = g .R·ReadStore .contents (now (c .args .self .now .second)) .files in
+    put-same (ap (λ t. numbers 4 (cond t (handles-on 0x80000000 (listed-in (c .args .listing .wanted)) es) [])) (c .if-names .ensures tt))
+    (put-none (c .args .place) (now (c .args .out)) (let h = c .pre in omega arith))
