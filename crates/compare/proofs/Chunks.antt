@@ -1,7 +1,7 @@
 -- Lists compared chunk by chunk.
 use Rattle.std.proofs.Common.{◌≡◌, ℕ, zero, suc, ◌+◌, ◌-◌, ◌≤◌, Bool, List, [], ◌∷◌, ◌++◌, length, take, drop, Decides, sym, refl, ap, ◌∙◌, arith, length-drop, take-append-drop, take_all}
 use lib.Seq.{take-append_seam}
-use Rattle.bytes.specs.Parts.{over}
+use Rattle.byte_parts.specs.Parts.{over}
 
 -- two copies over the same memory are equal exactly if as much was copied and that is equal
 pub chunk : {r : Bool} {x y : List ℕ} (p q z : List ℕ) (m n : ℕ) → Decides r (x ≡ y) → x ≡ over p z → y ≡ over q z

@@ -1,6 +1,6 @@
 //! Whether a file has the same bytes in two stores.
 ghost use Rattle.std.specs.Prelude.{◌≡◌, length, Decides};
-ghost use Rattle.bytes.specs.Parts.{fitting};
+ghost use Rattle.byte_parts.specs.Parts.{fitting};
 ghost use Rattle.store.specs.Contents.{lookup, bytes_of, rest_of};
 
 use store::read::ReadStore;

@@ -2,8 +2,8 @@
 use Rattle.std.proofs.Common.{◌≡◌, ℕ, suc, ◌-◌, ◌<◌, ◌≤◌, Bool, true, false, cond, eqb, leb, List, [], ◌∷◌, length, take, drop, Some, None, Option, sym, refl, ap, ◌∙◌, arith}
 use Rattle.std.specs.Option.{option_map}
 use Rattle.std.proofs.lemmas.Bool.{cond-true, cond-false}
-use Rattle.bytes.specs.Parts.{cut_part}
-use Rattle.bytes.proofs.Cutting.{none_some, some_same, through}
+use Rattle.byte_parts.specs.Parts.{cut_part}
+use Rattle.byte_parts.proofs.Cutting.{none_some, some_same, through}
 use Rattle.object.specs.Names.{units_in, named, named_some, name_in}
 use Rattle.object.specs.declared.name.Name.{Name}
 use Rattle.object.specs.declared.protection.Protection.{Protection}

@@ -2,8 +2,8 @@
 use Rattle.std.proofs.Common.{◌≡◌, ℕ, ◌+◌, ◌*◌, ◌^◌, ◌<◌, ◌≤◌, Bool, true, false, cond, ◌&&◌, ltb, leb, List, [], ◌∷◌, ◌++◌, length, drop, Some, None, Option, sym, refl, ap, ◌∙◌, arith}
 use Rattle.std.specs.List.{AllByRecursion as All}
 use Rattle.std.proofs.lemmas.Bool.{leb-true, ltb-true, le-leb, and_parts, and_from, cond-true}
-use Rattle.bytes.specs.Numbers.{le, value}
-use Rattle.bytes.proofs.LittleEndian.{value_le}
+use Rattle.byte_parts.specs.Numbers.{le, value}
+use Rattle.byte_parts.proofs.LittleEndian.{value_le}
 use Rattle.object.specs.Legal.{legal_unit, all, legal_name}
 use Rattle.object.specs.Names.{units_of, named}
 use Rattle.object.specs.Protections.{protection_number, protection_of}

@@ -1,6 +1,6 @@
 -- The DeviceInfo dataset.
 use Rattle.std.specs.Prelude.{ℕ, List, [], ◌∷◌, ◌++◌, map, codes}
-use Rattle.bytes.specs.Numbers.{le}
+use Rattle.byte_parts.specs.Numbers.{le}
 use Rattle.object.specs.Formats.{format_number, formats}
 use Rattle.wire.specs.Operations.{operation_codes}
 use Rattle.wire.specs.Strings.{string, array}

@@ -1,6 +1,6 @@
 -- The ObjectInfo dataset: 52 bytes of numbers, the name, and three strings.
 use Rattle.std.specs.Prelude.{ℕ, zero, suc, Bool, true, false, cond, List, [], ◌∷◌, ◌++◌, length, drop, Some, None, Option, ◌==◌, nat_le}
-use Rattle.bytes.specs.Numbers.{le}
+use Rattle.byte_parts.specs.Numbers.{le}
 use Rattle.object.specs.Names.{units_of, named}
 use Rattle.object.specs.Protections.{protection_number, protection_of}
 use Rattle.object.specs.declared.name.Name.{Name}

@@ -1,6 +1,6 @@
 -- The StorageInfo dataset.
 use Rattle.std.specs.Prelude.{ℕ, Bool, cond, List, [], ◌∷◌, ◌++◌, codes}
-use Rattle.bytes.specs.Numbers.{le}
+use Rattle.byte_parts.specs.Numbers.{le}
 use Rattle.wire.specs.Strings.{string}
 use Rattle.datasets.specs.declared.info.StorageInfo.{StorageInfo}
 use Rattle.datasets.specs.declared.info.StorageKind.{StorageKind}

@@ -6,7 +6,7 @@ ghost use Rattle.datasets.specs.Laws.{ObjectInfosReadBack};
 ghost use Rattle.datasets.specs.ObjectInfos.{are_strings, protection_at, object_info_in};
 
 use crate::info::ObjectInfo;
-use bytes::cut::cut;
+use byte_parts::cut::cut;
 use object::name::Name;
 use object::protection::Protection;
 use wire::fault::DatasetFault;

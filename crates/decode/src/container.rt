@@ -2,7 +2,7 @@
 use crate::dataset::dataset_said;
 use crate::names::{operation_name, response_name};
 use crate::numbers::numbers_said;
-use bytes::cut::{cut_u16, cut_u32};
+use byte_parts::cut::{cut_u16, cut_u32};
 use std::alloc::{AllocError, Global};
 use wire::command::Command;
 

@@ -2,7 +2,7 @@
 use crate::fields::{device_in, storage_in};
 use crate::numbers::{codes_said, numbers_said};
 use crate::text::{quoted_bytes, quoted_units};
-use bytes::cut::cut_u32;
+use byte_parts::cut::cut_u32;
 use datasets::info::ObjectInfo;
 use object::protection::Protection;
 use std::alloc::{AllocError, Global};

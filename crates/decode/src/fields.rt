@@ -1,5 +1,5 @@
 //! The fields of the datasets that the responder only writes.
-use bytes::cut::{cut, cut_u16, cut_u32};
+use byte_parts::cut::{cut, cut_u16, cut_u32};
 use wire::string::read_string;
 
 /// A StorageInfo. The description is the bytes of its units.

@@ -1,4 +1,5 @@
 //! Prints captured containers for a person at the bench.
+#![tactic(auto)]
 use std::{env, fs, io};
 
 mod container;

@@ -1,5 +1,5 @@
 //! Lists of numbers in words.
-use bytes::cut::{cut_u16, cut_u32};
+use byte_parts::cut::{cut_u16, cut_u32};
 use std::alloc::{AllocError, Global};
 
 /// The 16-bit numbers that bytes hold, each behind a space.

@@ -1,5 +1,5 @@
 //! The text of units, fit for a terminal.
-use bytes::cut::cut_u16;
+use byte_parts::cut::cut_u16;
 use std::alloc::{AllocError, Global};
 
 /// Adds one unit: half pairs and control characters are escaped.

@@ -2,7 +2,7 @@
 use Rattle.std.proofs.Common.{◌≡◌, ℕ, ◌+◌, ◌-◌, ◌^◌, ◌<◌, ◌≤◌, false, ◌&&◌, ltb, leb, List, [], length, vec_items, vec_len, vec_capacity, sym, refl, ap, ◌∙◌, subst, arith}
 use Rattle.std.proofs.lemmas.Bool.{le-ltb, and_left}
 use Rattle.std.proofs.lemmas.Bool.Decides.{nat_tests}
-use Rattle.bytes.proofs.Cutting.{none_some}
+use Rattle.byte_parts.proofs.Cutting.{none_some}
 use Rattle.store.specs.Contents.{total}
 use Rattle.store.specs.Changes.{has_room}
 use Rattle.store.specs.Sound.{Sound, max_capacity, max_files}

@@ -4,7 +4,7 @@ use native.Mathlib.Nat.{min-eq_left, min-eq_right, min-le_left}
 use lib.Seq.{take-nil}
 use Rattle.std.proofs.lemmas.List.{drop_all, drop-take}
 use Rattle.std.proofs.lemmas.Bool.{cases_lt}
-use Rattle.bytes.specs.Parts.{Copied}
+use Rattle.byte_parts.specs.Parts.{Copied}
 use Rattle.store.specs.Infos.{info_of}
 use Rattle.heap_store.specs.Rows.{stored}
 use Rattle.heap_store.specs.declared.row.Found.{Found}

@@ -3,7 +3,7 @@ use Rattle.std.proofs.Common.{◌≡◌, ℕ, ◌-◌, ◌<◌, ◌≤◌, Bool,
 use Rattle.std.proofs.lemmas.Bool.{and_parts, and_from, eqb-true, eq-eqb, false≢true}
 use Rattle.store.specs.Contents.{File, Entry, Contents, total, lookup, next_above}
 use Rattle.store.specs.Sound.{Ascending}
-use Rattle.bytes.proofs.Cutting.{some_same}
+use Rattle.byte_parts.proofs.Cutting.{some_same}
 use Rattle.object.specs.Names.{name_in}
 use Rattle.object.specs.declared.name.Name.{Name}
 use Rattle.object.specs.declared.protection.Protection.TheVariants.{ReadOnly}
@@ -16,7 +16,7 @@ use Rattle.image_format.specs.Walk.{Plain, sought, numbered, sought_at, ok_by, l
 use Rattle.image_format.specs.declared.layout.Layout.{Layout}
 use Rattle.image_format.specs.declared.fault.SpoiltImage.{SpoiltImage}
 use Rattle.image_format.proofs.Entries.{first_above, file_numbered, next_first, number_of, lookup_first}
-use Rattle.bytes.specs.Numbers.{Bytes}
+use Rattle.byte_parts.specs.Numbers.{Bytes}
 use Rattle.image_format.specs.Images.{IsImage}
 use Rattle.image_format.proofs.Exact.{accepted, accepted_image}
 use Rattle.image_format.proofs.Inverted.{ok_same, err_ok}

@@ -1,3 +1,4 @@
 //! A read-only store in an image of tagged fields.
+#![tactic(auto)]
 pub mod samples;
 pub mod store;

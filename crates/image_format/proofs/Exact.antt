@@ -3,8 +3,8 @@ use Rattle.std.proofs.Common.{◌≡◌, ℕ, zero, suc, ◌+◌, ◌-◌, ◌*�
 use Rattle.std.specs.Option.{option_map}
 use Rattle.std.proofs.lemmas.List.{append_assoc, append-nil, length-append, length_push, nil_from_length}
 use Rattle.std.proofs.lemmas.Bool.{and_from, lt-ltb, le-leb, eq-eqb, ne_eqb, or_right, or_left, or_cases, cond-true, eqb-true, cases_Bool, not_from_false}
-use Rattle.bytes.specs.Numbers.{Bytes, le}
-use Rattle.bytes.proofs.Cutting.{none_some, some_same}
+use Rattle.byte_parts.specs.Numbers.{Bytes, le}
+use Rattle.byte_parts.proofs.Cutting.{none_some, some_same}
 use Rattle.object.specs.Formats.{format_number, is_folder}
 use Rattle.object.specs.Names.{units_of, unit_bytes, name_in}
 use Rattle.object.specs.declared.name.Name.{Name}

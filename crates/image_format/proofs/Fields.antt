@@ -5,9 +5,9 @@ use Rattle.std.specs.List.{AllByRecursion as All}
 use Rattle.std.proofs.ByRecursion.{All-take, All-drop}
 use Rattle.std.proofs.lemmas.List.{append_assoc, append-nil, nil_from_length, take_at, drop_at}
 use Rattle.std.proofs.lemmas.Bool.{eqb-true, eq-eqb, cond-true}
-use Rattle.bytes.specs.Numbers.{Bytes, le, cut_number}
-use Rattle.bytes.specs.Parts.{cut_part}
-use Rattle.bytes.proofs.Cutting.{none_some, some_same, through, Cut, part_cut, cut_front, Number, number_cut, cut_le}
+use Rattle.byte_parts.specs.Numbers.{Bytes, le, cut_number}
+use Rattle.byte_parts.specs.Parts.{cut_part}
+use Rattle.byte_parts.proofs.Cutting.{none_some, some_same, through, Cut, part_cut, cut_front, Number, number_cut, cut_le}
 use Rattle.object.specs.Formats.{format_number, formats, format_of}
 use Rattle.object.specs.Numbered.{with_number}
 use Rattle.object.specs.declared.format.Format.{Format}

@@ -1,7 +1,7 @@
 -- What a reading that went well tells of the bytes.
 use Rattle.std.proofs.Common.{◌≡◌, ℕ, Bool, true, false, cond, List, [], ◌∷◌, ◌++◌, Some, None, Ok, Err, Option, Result, sym, refl, ap, ◌∙◌, subst, arith}
 use Rattle.std.specs.Option.{option_map}
-use Rattle.bytes.proofs.Cutting.{none_some, some_same, through}
+use Rattle.byte_parts.proofs.Cutting.{none_some, some_same, through}
 use Rattle.object.specs.Names.{name_in}
 use Rattle.object.specs.declared.name.Name.{Name}
 use Rattle.object.specs.declared.protection.Protection.TheVariants.{ReadOnly}

@@ -1,7 +1,7 @@
 -- Walking over an image visits the files that it holds.
 use Rattle.std.proofs.Common.{◌≡◌, ℕ, suc, ◌+◌, ◌-◌, ◌<◌, ◌≤◌, Bool, true, false, cond, eqb, ltb, List, [], ◌∷◌, ◌++◌, length, Some, None, Ok, Err, Option, Result, sym, refl, ap, ◌∙◌, subst, arith}
 use Rattle.std.specs.Option.{option_map}
-use Rattle.bytes.proofs.Cutting.{none_some, some_same}
+use Rattle.byte_parts.proofs.Cutting.{none_some, some_same}
 use Rattle.object.specs.Names.{name_in}
 use Rattle.object.specs.declared.name.Name.{Name}
 use Rattle.object.specs.declared.protection.Protection.TheVariants.{ReadOnly}

@@ -1,6 +1,6 @@
 -- Files as fields: what an image is made of.
 use Rattle.std.specs.Prelude.{ℕ, List, [], ◌∷◌, ◌++◌, length}
-use Rattle.bytes.specs.Numbers.{le}
+use Rattle.byte_parts.specs.Numbers.{le}
 use Rattle.object.specs.Formats.{format_number}
 use Rattle.object.specs.Names.{units_of, unit_bytes}
 use Rattle.store.specs.Contents.{File, Entry}

@@ -1,8 +1,8 @@
 -- What an image holds, or where it is wrong, for every list of bytes.
 use Rattle.std.specs.Prelude.{ℕ, zero, suc, ◌+◌, ◌-◌, Bool, true, false, cond, not, ◌&&◌, ◌||◌, List, [], ◌∷◌, ◌++◌, length, Some, None, Ok, Err, Option, Result, ◌==◌, nat_le, nat_lt}
 use Rattle.std.specs.Option.{option_map}
-use Rattle.bytes.specs.Numbers.{cut_number}
-use Rattle.bytes.specs.Parts.{cut_part}
+use Rattle.byte_parts.specs.Numbers.{cut_number}
+use Rattle.byte_parts.specs.Parts.{cut_part}
 use Rattle.object.specs.Formats.{format_of, is_folder}
 use Rattle.object.specs.Names.{name_in}
 use Rattle.object.specs.declared.format.Format.{Format}

@@ -3,7 +3,7 @@ ghost use Rattle.std.specs.Prelude.{◌≡◌, ◌≤◌, length};
 ghost use Rattle.std.specs.Option.{option_map};
 ghost use Rattle.image_format.specs.Parsed.{cut_field, head_in};
 
-use bytes::cut::{cut, cut_u8, cut_u16, cut_u32};
+use byte_parts::cut::{cut, cut_u8, cut_u16, cut_u32};
 use object::format::Format;
 
 pub const HEAD: u8 = 0x01;

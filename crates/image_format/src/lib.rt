@@ -1,4 +1,5 @@
 //! The form of an image: files as tagged fields, one behind the other.
+#![tactic(auto)]
 pub mod fault;
 mod field;
 pub mod layout;

@@ -3,7 +3,7 @@ use Rattle.std.proofs.Common.{◌≡◌, ℕ, ◌+◌, ◌<◌, ◌≤◌, Bool,
 use Rattle.std.specs.Option.{option_map}
 use Rattle.std.proofs.lemmas.List.{append-nil, append_assoc, length-append, map-append, length-map}
 use Rattle.std.proofs.lemmas.Bool.{cond-true, cond-false, lt-ltb, le-ltb, ltb-true, ltb-false, eq-eqb, ne_eqb}
-use Rattle.bytes.proofs.Cutting.{none_some, some_same}
+use Rattle.byte_parts.proofs.Cutting.{none_some, some_same}
 use Rattle.store.specs.Contents.{File, Entry, lookup, next_above}
 use Rattle.store.specs.Infos.{info_of, described}
 use Rattle.store.specs.Sound.{Ascending}

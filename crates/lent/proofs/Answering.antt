@@ -5,7 +5,7 @@ use lib.Seq.{take-nil, drop-nil}
 use Rattle.std.specs.Option.{option_map}
 use Rattle.std.proofs.lemmas.List.{get_or-map, length-map, drop_all, drop-take}
 use Rattle.std.proofs.lemmas.Bool.{cases_eq, eq-eqb, ne_eqb}
-use Rattle.bytes.specs.Parts.{Copied}
+use Rattle.byte_parts.specs.Parts.{Copied}
 use Rattle.store.specs.declared.fault.StoreFault.{StoreFault}
 use Rattle.store.specs.declared.fault.StoreFault.TheVariants.{InvalidDataset, NumberTaken, InvalidParent, Full, Absent, HasChildren}
 use Rattle.store.specs.declared.info.FileInfo.{FileInfo}

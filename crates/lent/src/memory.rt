@@ -1,6 +1,6 @@
 //! Lent memory, what is in use of it, and the questions that it answers. A store in lent memory keeps what the questions require.
 ghost use Rattle.std.specs.Prelude.{◌≡◌, ◌+◌, false, not, ◌&&◌, length, MatchOption, MatchResult, nat_lt};
-ghost use Rattle.bytes.specs.Parts.{Copied};
+ghost use Rattle.byte_parts.specs.Parts.{Copied};
 ghost use Rattle.store.specs.Contents.{total as bytes-in-use, lookup, next_above, rest_of};
 ghost use Rattle.store.specs.Infos.{described};
 ghost use Rattle.store.specs.Sound.{is_parent};

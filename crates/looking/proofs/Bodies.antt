@@ -4,7 +4,7 @@ use native.Mathlib.Nat.{min-eq_left, min-eq_right}
 use borrow.Rule.Slice.PartMut.{put_mid}
 use Rattle.std.proofs.lemmas.List.{take_all, drop_all, drop-drop, length-take-le}
 use Rattle.std.proofs.lemmas.Bool.{cases_lt}
-use Rattle.bytes.specs.Parts.{Copied, over}
+use Rattle.byte_parts.specs.Parts.{Copied, over}
 use Rattle.object.specs.Formats.{is_folder}
 use Rattle.store.specs.Checks.{provided}
 use Rattle.store.specs.Contents.{File, bytes_of}

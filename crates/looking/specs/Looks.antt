@@ -1,7 +1,7 @@
 -- What an operation that looks writes, and what it hands on.
 use Rattle.std.specs.Prelude.{ℕ, false, cond, not, List, [], length, Ok, Err, Option, Result, ◌==◌, nat_le}
 use Rattle.std.specs.Option.{option_map}
-use Rattle.bytes.specs.Parts.{over}
+use Rattle.byte_parts.specs.Parts.{over}
 use Rattle.store.specs.Checks.{provided}
 use Rattle.store.specs.Infos as infos
 use Rattle.store.specs.declared.info.FileInfo.{FileInfo}

@@ -1,7 +1,7 @@
 //! Objects: their datasets and their bytes.
 ghost use Rattle.std.specs.Prelude.{◌≡◌, ◌-◌, ◌<◌, ◌≤◌, min, length, drop, IfSome, IfOk, nat_le};
 ghost use Rattle.std.specs.Option.{option_map};
-ghost use Rattle.bytes.specs.Parts.{Copied};
+ghost use Rattle.byte_parts.specs.Parts.{Copied};
 ghost use Rattle.store.specs.Contents.{bytes_of};
 ghost use Rattle.store.specs.Infos.{info_of};
 ghost use Rattle.wire.specs.Writing.{placed};

@@ -4,9 +4,9 @@ use Rattle.object.specs.declared.name.Name.{Name}
 use Rattle.std.proofs.lemmas.List.{append_assoc, length-append, length-set, length-take-le, take_more_set}
 use Rattle.std.specs.List.{AllByRecursion as All}
 use Rattle.std.proofs.lemmas.Bool.{and_parts, ltb-true}
-use Rattle.bytes.specs.Numbers.{Bytes, le, cut_number}
-use Rattle.bytes.proofs.LittleEndian.{le_value}
-use Rattle.bytes.proofs.Cutting.{none_some, some_same, through}
+use Rattle.byte_parts.specs.Numbers.{Bytes, le, cut_number}
+use Rattle.byte_parts.proofs.LittleEndian.{le_value}
+use Rattle.byte_parts.proofs.Cutting.{none_some, some_same, through}
 use Rattle.object.specs.Legal.{legal_unit, all, legal_name}
 use Rattle.object.specs.Names.{units_of, unit_bytes, named, units_in, with_units, named_some, name_in}
 use Rattle.object.proofs.Making.{refused, accepted, not_long}

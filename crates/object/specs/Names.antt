@@ -1,6 +1,6 @@
 -- Names as lists of units, and as bytes.
 use Rattle.std.specs.Prelude.{◌≡◌, ℕ, ◌+◌, ◌-◌, ◌*◌, Bool, true, false, List, [], ◌∷◌, ◌++◌, length, take, replicate, Some, None, Option, refl}
-use Rattle.bytes.specs.Numbers.{le}
+use Rattle.byte_parts.specs.Numbers.{le}
 use Rattle.object.specs.declared.name.Name.{Name}
 use Rattle.object.specs.Legal.{stored_name}
 

@@ -1,7 +1,7 @@
 -- A store that holds no file is sound.
 use Rattle.std.proofs.Common.{◌≡◌, ℕ, true, ◌&&◌, leb, arith}
 use Rattle.std.proofs.lemmas.Bool.{leb-true, and_parts}
-use Rattle.bytes.proofs.Cutting.{none_some}
+use Rattle.byte_parts.proofs.Cutting.{none_some}
 use Rattle.store.specs.Sound.{Sound, max_capacity, max_files}
 use Rattle.packed.specs.Layouts.{suits, empty}
 

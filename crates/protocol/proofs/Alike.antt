@@ -2,9 +2,9 @@
 use Rattle.std.proofs.Common.{◌≡◌, ℕ, ◌+◌, ◌-◌, ◌*◌, ◌^◌, ◌<◌, ◌≤◌, Bool, true, false, cond, not, eqb, ltb, leb, ◌⊎◌, List, [], ◌∷◌, length, get_or, drop, Some, None, Err, Option, Result, sym, refl, ap, ◌∙◌, inl, inr, arith}
 use Rattle.std.proofs.lemmas.List.{length-append, nil_from_length}
 use Rattle.std.proofs.lemmas.Bool.{le-leb, cond-true, cases_lt, eqb-true, true≢false}
-use Rattle.bytes.specs.Numbers.{le, value}
-use Rattle.bytes.proofs.LittleEndian.{value_le}
-use Rattle.bytes.proofs.Cutting.{some_same}
+use Rattle.byte_parts.specs.Numbers.{le, value}
+use Rattle.byte_parts.proofs.LittleEndian.{value_le}
+use Rattle.byte_parts.proofs.Cutting.{some_same}
 use Rattle.object.specs.Formats.{is_folder, format_number, format_of}
 use Rattle.object.specs.Names.{units_of, unit_bytes}
 use Rattle.object.specs.declared.format.Format.{Format}

@@ -2,7 +2,7 @@
 use Rattle.std.proofs.Common.{◌≡◌, ℕ, ◌+◌, ◌<◌, ◌≤◌, ◌⊎◌, List, [], ◌∷◌, ◌++◌, Some, sym, refl, ap, ◌∙◌, inl, inr, arith}
 use Rattle.std.specs.List.{AllByRecursion as All}
 use Rattle.std.proofs.lemmas.Bool.{cases_eq}
-use Rattle.bytes.proofs.Cutting.{none_some, some_same}
+use Rattle.byte_parts.proofs.Cutting.{none_some, some_same}
 use Rattle.store.specs.Contents.{File, Entry, lookup}
 use Rattle.store.specs.Sound.{Ascending}
 use Rattle.store.specs.Laws.{Below}

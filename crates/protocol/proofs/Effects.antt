@@ -1,7 +1,7 @@
 -- One law for each operation that acts: its refusals, and what it does when it is accepted.
 use Rattle.std.proofs.Common.{◌≡◌, ℕ, suc, ◌+◌, ◌<◌, ◌≤◌, Bool, true, false, cond, not, ◌&&◌, ◌||◌, eqb, ltb, leb, ◌⊎◌, List, [], ◌∷◌, length, Some, None, Ok, Err, Option, sym, refl, ap, ◌∙◌, subst, inl, inr, arith}
 use Rattle.std.proofs.lemmas.Bool.{and_parts, eqb-true, eqb-false, leb-true, ltb-true, not-true, or_cases, both_ways, true≢false, cond-true}
-use Rattle.bytes.proofs.Cutting.{none_some, some_same}
+use Rattle.byte_parts.proofs.Cutting.{none_some, some_same}
 use Rattle.object.specs.Formats.{is_folder, format_of, format_number, formats}
 use Rattle.object.specs.Numbered.{with_number}
 use Rattle.object.specs.declared.format.Format.{Format}

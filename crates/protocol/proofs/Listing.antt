@@ -1,7 +1,7 @@
 -- The handles that an accepted GetObjectHandles sends.
 use Rattle.std.proofs.Common.{◌≡◌, ℕ, ◌+◌, ◌-◌, ◌<◌, ◌≤◌, Bool, true, false, cond, ◌&&◌, ◌||◌, eqb, ltb, ◌⊎◌, List, [], ◌∷◌, ◌++◌, Some, Ok, sym, refl, ap, ◌∙◌, subst, inl, inr, zero-add, arith}
 use Rattle.std.proofs.lemmas.Bool.{and_parts, or_cases, or_left, or_right, eqb-true, eqb-false, eq-eqb, lt-ltb, le-ltb, ltb-false, cases_eq, cond-true, cond-false, both_ways}
-use Rattle.bytes.proofs.Cutting.{none_some, some_same}
+use Rattle.byte_parts.proofs.Cutting.{none_some, some_same}
 use Rattle.object.specs.Formats.{is_folder}
 use Rattle.store.specs.Contents.{File, Entry, lookup}
 use Rattle.store.specs.Sound.{Ascending}

@@ -1,8 +1,8 @@
 -- An ObjectInfo is read back as the record that it was written from.
 use Rattle.std.proofs.Common.{◌≡◌, ℕ, suc, ◌+◌, ◌*◌, ◌/◌, ◌%◌, ◌^◌, ◌<◌, ◌≤◌, true, cond, eqb, ltb, leb, List, [], ◌∷◌, ◌++◌, length, Some, None, Option, refl, ap, ◌∙◌, append_assoc, arith}
 use Rattle.std.proofs.lemmas.Bool.{and_parts, leb-true, ltb-true, le-leb, ne_eqb, cond-true, cond-false, both_ways}
-use Rattle.bytes.specs.Numbers.{le, value}
-use Rattle.bytes.proofs.LittleEndian.{value_le}
+use Rattle.byte_parts.specs.Numbers.{le, value}
+use Rattle.byte_parts.proofs.LittleEndian.{value_le}
 use Rattle.object.specs.Legal.{legal_unit, all, legal_name}
 use Rattle.object.specs.Names.{units_of, named, unit_bytes}
 use Rattle.object.specs.Protections.{protection_number, protection_of}

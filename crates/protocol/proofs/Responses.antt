@@ -5,9 +5,9 @@ use Rattle.std.specs.List.{AllByRecursion as All}
 use Rattle.std.proofs.ByRecursion.{All-get_or, All-take, All-drop}
 use Rattle.std.proofs.lemmas.List.{length-take, length-drop, length-take-le, take-append-drop, drop-drop, nil_from_length}
 use Rattle.std.proofs.lemmas.Bool.{and_from, and_parts, leb-true, le-leb, eqb-true, eq-eqb, cond-true, cases_eq}
-use Rattle.bytes.specs.Numbers.{Bytes, le, value}
-use Rattle.bytes.proofs.LittleEndian.{value_le, le_value}
-use Rattle.bytes.proofs.Cutting.{some_same, through}
+use Rattle.byte_parts.specs.Numbers.{Bytes, le, value}
+use Rattle.byte_parts.proofs.LittleEndian.{value_le, le_value}
+use Rattle.byte_parts.proofs.Cutting.{some_same, through}
 use Rattle.wire.specs.declared.command.Command.{Command}
 use Rattle.wire.specs.Containers.{numbers, container, number_at, is_container, response_type, response}
 use Rattle.wire.specs.Operations.{get_partial_object}

@@ -1,7 +1,7 @@
 -- Every call keeps the stores sound and the session fit.
 use Rattle.std.proofs.Common.{◌≡◌, ℕ, suc, ◌<◌, ◌≤◌, ◌⊎◌, List, [], ◌∷◌, length, Some, None, Ok, Option, sym, refl, ap, ◌∙◌, subst, inl, inr, arith}
 use Rattle.std.proofs.lemmas.Bool.{cases_eq}
-use Rattle.bytes.proofs.Cutting.{none_some}
+use Rattle.byte_parts.proofs.Cutting.{none_some}
 use Rattle.store.specs.Contents.{File, Contents, total, lookup}
 use Rattle.store.specs.Sound.{Sound, last_number}
 use Rattle.store.specs.Changes.{removed, adding, removing, past_last}

@@ -2,7 +2,7 @@
 use Rattle.std.proofs.Common.{◌≡◌, ℕ, suc, ◌≤◌, Bool, true, false, cond, not, ◌&&◌, ◌||◌, eqb, leb, ◌⊎◌, List, [], ◌∷◌, length, Some, None, Ok, Err, Option, Result, sym, refl, ap, ◌∙◌, subst, inl, inr, arith}
 use Rattle.std.specs.List.{AllByRecursion as All}
 use Rattle.std.proofs.lemmas.Bool.{eqb-true, eqb-false, or_cases, cond_both}
-use Rattle.bytes.proofs.Cutting.{none_some}
+use Rattle.byte_parts.proofs.Cutting.{none_some}
 use Rattle.object.specs.Formats.{is_folder}
 use Rattle.store.specs.Contents.{Contents}
 use Rattle.store.specs.Sound.{last_number}

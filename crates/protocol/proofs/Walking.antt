@@ -1,6 +1,6 @@
 -- Listings by the next-file question.
 use Rattle.std.proofs.Common.{◌≡◌, ℕ, ◌+◌, ◌≤◌, Bool, true, false, cond, List, [], ◌∷◌, map, filter, sym, refl, ap, ◌∙◌, subst, arith}
-use Rattle.bytes.proofs.Cutting.{none_some, some_same}
+use Rattle.byte_parts.proofs.Cutting.{none_some, some_same}
 use Rattle.store.specs.Contents.{File, Entry, lookup}
 use Rattle.store.specs.Sound.{Ascending}
 use Rattle.store.specs.Laws.{Walk}

@@ -1,7 +1,7 @@
 -- Replies tell the contents, and nothing else.
 use Rattle.std.specs.Prelude.{◌≡◌, ◌^◌, ◌<◌, List, length}
 use Rattle.std.specs.List.{AllByRecursion as All}
-use Rattle.bytes.specs.Numbers.{Bytes}
+use Rattle.byte_parts.specs.Numbers.{Bytes}
 use Rattle.wire.specs.declared.command.Command.{Command}
 use Rattle.protocol.specs.Storages.{Storages, SoundStorages}
 use Rattle.protocol.specs.Machine.{Call, answer, cancel, unplug, replies, fresh}

@@ -1,7 +1,7 @@
 -- Responses as bytes: their reader, and that they determine the reply.
 use Rattle.std.specs.Prelude.{◌≡◌, ℕ, zero, suc, ◌-◌, ◌/◌, ◌%◌, ◌^◌, ◌<◌, ◌≤◌, cond, ◌&&◌, List, [], ◌∷◌, length, drop, Some, None, Option, ◌==◌, nat_le}
 use Rattle.std.specs.List.{AllByRecursion as All}
-use Rattle.bytes.specs.Numbers.{Bytes}
+use Rattle.byte_parts.specs.Numbers.{Bytes}
 use Rattle.wire.specs.Containers.{number_at, is_container, response_type, response}
 use Rattle.protocol.specs.Storages.{Storages, SoundStorages}
 use Rattle.protocol.specs.Machine.{Reply, Call, response_of, replies, fresh}

@@ -1,6 +1,6 @@
 -- What the code's replies tell.
 use Rattle.std.specs.Prelude.{◌≡◌, ℕ, List, [], length, Ok, Err, Result}
-use Rattle.bytes.specs.Parts.{over}
+use Rattle.byte_parts.specs.Parts.{over}
 use Rattle.wire.specs.Containers.{response}
 use Rattle.wire.specs.Parameters.{listed}
 use Rattle.wire.specs.declared.command.Command.{Command}

@@ -1,6 +1,6 @@
 //! Replies, and the response that tells each.
 ghost use Rattle.std.specs.Prelude.{◌≡◌};
-ghost use Rattle.bytes.specs.Parts.{over};
+ghost use Rattle.byte_parts.specs.Parts.{over};
 ghost use Rattle.wire.specs.Containers.{response};
 ghost use Rattle.looking.specs.Outcomes.{result_told};
 ghost use Rattle.responder.specs.Replies.{told, told_of, tells};

@@ -4,7 +4,7 @@ mod looking;
 mod performing;
 
 ghost use Rattle.std.specs.Prelude.{◌≡◌, length};
-ghost use Rattle.bytes.specs.Parts.{over};
+ghost use Rattle.byte_parts.specs.Parts.{over};
 ghost use Rattle.protocol.specs.Machine.{answered, cancelled, unplugged, fresh, response_of};
 ghost use Rattle.responder.specs.Laws.{Lawful};
 ghost use Rattle.protocol.specs.Pairs.{storages_of};

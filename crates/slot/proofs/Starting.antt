@@ -2,7 +2,7 @@
 use Rattle.std.proofs.Common.{◌≡◌, ℕ, ◌+◌, ◌*◌, ◌%◌, ◌<◌, ◌≤◌, true, ◌&&◌, eqb, leb, List, [], ◌∷◌, length, get_or, take, sym, refl, ap, ◌∙◌, subst, arith}
 use Rattle.std.proofs.lemmas.List.{length-map}
 use Rattle.std.proofs.lemmas.Bool.{and_parts, leb-true, eqb-true}
-use Rattle.bytes.proofs.Cutting.{none_some}
+use Rattle.byte_parts.proofs.Cutting.{none_some}
 use Rattle.store.specs.Contents.{Contents, total}
 use Rattle.store.specs.Sound.{Sound, max_files, max_length}
 use Rattle.lent.specs.declared.memory.Memory.{Memory}

@@ -2,7 +2,7 @@
 use Rattle.std.proofs.Common.{◌≡◌, ℕ, suc, ◌+◌, ◌<◌, ◌≤◌, Bool, true, false, cond, eqb, ltb, ◌⊎◌, List, [], ◌∷◌, length, Some, None, Option, sym, refl, ap, ◌∙◌, subst, inl, inr, arith}
 use Rattle.std.specs.List.{AllByRecursion as All}
 use Rattle.std.proofs.lemmas.Bool.{eqb-true, eqb-false, ltb-true, ltb-false, eq-eqb, ne_eqb, cases_eq, cases_order, or_parts}
-use Rattle.bytes.proofs.Cutting.{none_some, some_same}
+use Rattle.byte_parts.proofs.Cutting.{none_some, some_same}
 use Rattle.store.specs.Contents.{File, Entry, total, lookup}
 use Rattle.store.specs.Sound.{Ascending, EachFile}
 use Rattle.store.specs.Changes.{inserted, without, has_children}

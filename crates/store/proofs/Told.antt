@@ -1,7 +1,7 @@
 -- What lookups tell of a store, and what the next number above another is.
 use Rattle.std.proofs.Common.{◌≡◌, ℕ, suc, ◌<◌, ◌≤◌, ltb, ◌⊎◌, List, [], ◌∷◌, map, Some, None, Option, sym, refl, ◌∙◌, subst, inl, inr, arith}
 use Rattle.std.proofs.lemmas.Bool.{lt-ltb, le-ltb, cases_eq, cases_lt, cond-true, cond-false}
-use Rattle.bytes.proofs.Cutting.{none_some, some_same}
+use Rattle.byte_parts.proofs.Cutting.{none_some, some_same}
 use Rattle.store.specs.Contents.{File, Entry, Contents, lookup, next_above}
 use Rattle.store.specs.Sound.{Sound, Ascending}
 use Rattle.store.specs.Changes.{past_last}

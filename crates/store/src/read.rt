@@ -1,6 +1,6 @@
 //! The questions that every store answers.
 ghost use Rattle.std.specs.Prelude.{◌≡◌, length};
-ghost use Rattle.bytes.specs.Parts.{Copied};
+ghost use Rattle.byte_parts.specs.Parts.{Copied};
 ghost use Rattle.store.specs.Contents.{Contents, total, next_above, rest_of};
 ghost use Rattle.store.specs.Sound.{Sound};
 ghost use Rattle.store.specs.Infos.{described};

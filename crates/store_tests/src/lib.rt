@@ -1,3 +1,4 @@
 //! Tests over stores of all makes.
+#![tactic(auto)]
 #[cfg(test)]
 mod tests;

@@ -1,8 +1,8 @@
 //! Parts of the memory of bytes.
 ghost use Rattle.std.specs.Prelude.{◌≡◌, ◌+◌, ◌≤◌, length as extent, take, drop};
-ghost use Rattle.bytes.specs.Parts.{Copied};
+ghost use Rattle.byte_parts.specs.Parts.{Copied};
 
-use bytes::copy::copy_fitting;
+use byte_parts::copy::copy_fitting;
 
 /// Copies the file of `length` bytes from `start` on, from `offset` within it, to the front of `into`, as much as fits, and answers how much.
 pub fn copy_part(bytes: &[u8], start: u32, length: u32, offset: u32, into: &mut [u8]) -> usize

@@ -1,7 +1,7 @@
 -- The number at a place, byte by byte.
 use Rattle.std.proofs.Common.{◌≡◌, ℕ, zero, suc, ◌+◌, ◌*◌, List, [], ◌∷◌, get_or, take, drop, sym, refl, ap, ◌∙◌, add-zero, arith}
 use Rattle.std.proofs.lemmas.List.{get_or-drop, drop-drop}
-use Rattle.bytes.specs.Numbers.{value}
+use Rattle.byte_parts.specs.Numbers.{value}
 use Rattle.wire.specs.Containers.{number_at}
 
 value_front : (k : ℕ) (xs : List ℕ) → value (take (suc k) xs) ≡ get_or xs 0 0 + 256 * value (take k (drop 1 xs))

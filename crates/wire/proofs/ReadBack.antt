@@ -4,9 +4,9 @@ use Rattle.std.specs.List.{AllByRecursion as All}
 use Rattle.std.proofs.lemmas.List.{take_at, drop_at, drop-drop, take-append-drop, length-append, length-drop, length-take-le}
 use Rattle.std.proofs.ByRecursion.{All-take, All-drop}
 use Rattle.std.proofs.lemmas.Bool.{eq-eqb, ne_eqb, eqb-true, le-leb, leb-true, and_from, and_parts, cond-true, cond-false}
-use Rattle.bytes.specs.Numbers.{Bytes, le, value}
-use Rattle.bytes.proofs.Cutting.{none_some, some_same, through}
-use Rattle.bytes.proofs.LittleEndian.{length_le, value_le, value_bound, le_value}
+use Rattle.byte_parts.specs.Numbers.{Bytes, le, value}
+use Rattle.byte_parts.proofs.Cutting.{none_some, some_same, through}
+use Rattle.byte_parts.proofs.LittleEndian.{length_le, value_le, value_bound, le_value}
 use Rattle.object.specs.Names.{unit_bytes}
 use Rattle.wire.specs.Containers.{number_at, numbers, container, is_container, is_command, is_data, command_type, data_type, response_type, command_in, payload_in, data_container, head, response}
 use Rattle.wire.specs.Laws.{UnitFits, StringsReadBack, five, Carried, CommandsReadBack, DataReadsBack, HeadsJoin, ResponseFits, response_bytes, ResponsesReadBack, ArraysReadBack}

@@ -3,8 +3,8 @@ use Rattle.std.proofs.Common.{◌≡◌, ℕ, zero, suc, ◌+◌, ◌-◌, ◌*�
 use Rattle.std.specs.Option.{option_map}
 use Rattle.std.proofs.lemmas.List.{append-nil, length-append, take_at}
 use Rattle.std.proofs.lemmas.Bool.{eq-eqb, ne_eqb, cond-true, cond-false, le-leb}
-use Rattle.bytes.specs.Numbers.{cut_number}
-use Rattle.bytes.proofs.Cutting.{none_some, some_same, through}
+use Rattle.byte_parts.specs.Numbers.{cut_number}
+use Rattle.byte_parts.proofs.Cutting.{none_some, some_same, through}
 use Rattle.object.specs.Names.{with_units, units_in}
 use Rattle.wire.specs.Strings.{Read, with_unit, closed_units, string_in}
 use Rattle.wire.specs.Texts.{read_parts}

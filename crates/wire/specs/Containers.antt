@@ -1,6 +1,6 @@
 -- Containers: a head of 12 bytes, then the payload.
 use Rattle.std.specs.Prelude.{ℕ, ◌+◌, ◌%◌, Bool, cond, ◌&&◌, List, [], ◌∷◌, ◌++◌, map, length, take, drop, Some, None, Option, ◌==◌, nat_le}
-use Rattle.bytes.specs.Numbers.{le, value}
+use Rattle.byte_parts.specs.Numbers.{le, value}
 use Rattle.wire.specs.declared.command.Command.{Command}
 
 -- the types of container

@@ -1,6 +1,6 @@
 -- Readers of what the responder only writes, so that each encoding is seen to determine its record.
 use Rattle.std.specs.Prelude.{ℕ, zero, suc, ◌+◌, ◌-◌, ◌*◌, ◌/◌, ◌%◌, cond, ◌&&◌, List, [], ◌∷◌, length, take, drop, Some, None, Option, ◌==◌, nat_le}
-use Rattle.bytes.specs.Numbers.{value}
+use Rattle.byte_parts.specs.Numbers.{value}
 use Rattle.wire.specs.Containers.{number_at, is_container, response_type}
 
 -- n numbers of k bytes from the front; missing bytes count as 0

@@ -1,6 +1,6 @@
 -- Writing into a buffer.
 use Rattle.std.specs.Prelude.{◌≡◌, ℕ, ◌+◌, ◌≤◌, cond, List, ◌++◌, length, take, drop, Ok, Err, Result, nat_le}
-use Rattle.bytes.specs.Parts.{over}
+use Rattle.byte_parts.specs.Parts.{over}
 use Rattle.wire.specs.declared.fault.DatasetFault.{DatasetFault}
 use Rattle.wire.specs.declared.fault.DatasetFault.TheVariants.{BufferTooShort}
 

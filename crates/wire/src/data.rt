@@ -1,6 +1,6 @@
 //! Data containers written into the caller's buffer.
 ghost use Rattle.std.specs.Prelude.{◌≡◌, ◌+◌, length, nat_le};
-ghost use Rattle.bytes.specs.Numbers.{le};
+ghost use Rattle.byte_parts.specs.Numbers.{le};
 ghost use Rattle.wire.specs.Containers.{data_container, data_type, head};
 ghost use Rattle.wire.specs.Laws.{HeadsJoin, ArraysReadBack};
 ghost use Rattle.wire.specs.Strings.{array};

@@ -1,4 +1,5 @@
 //! What crosses the cable: containers, strings and arrays.
+#![tactic(auto)]
 pub mod command;
 pub mod container;
 pub mod data;

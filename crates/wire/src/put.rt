@@ -1,7 +1,7 @@
 //! Writes at a place of the caller's buffer, one behind the other. They serve the crates above, whose public calls ask for the
 //! room first.
 ghost use Rattle.std.specs.Prelude.{◌≡◌, ◌+◌, ◌*◌, ◌^◌, ◌<◌, ◌≤◌, [], ◌∷◌, length};
-ghost use Rattle.bytes.specs.Numbers.{le};
+ghost use Rattle.byte_parts.specs.Numbers.{le};
 ghost use Rattle.object.specs.Names.{unit_bytes};
 ghost use Rattle.wire.specs.Containers.{numbers, head};
 ghost use Rattle.wire.specs.Strings.{string, array};

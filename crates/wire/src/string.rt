@@ -5,7 +5,7 @@ ghost use Rattle.wire.specs.Laws.{StringsReadBack};
 ghost use Rattle.wire.specs.Strings.{closed_units, string_in};
 ghost use Rattle.wire.specs.Texts.{text_parts, read_parts};
 
-use bytes::cut::{cut_u8, cut_u16};
+use byte_parts::cut::{cut_u8, cut_u16};
 
 /// A string at the front of the caller's bytes: its units, two bytes each with the lower one first and without the closing
 /// 0, and the bytes behind it.

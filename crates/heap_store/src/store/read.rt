@@ -1,13 +1,13 @@
 //! The reading questions, over the heap.
 ghost use Rattle.std.specs.Prelude.{◌≡◌, length};
-ghost use Rattle.bytes.specs.Parts.{Copied};
+ghost use Rattle.byte_parts.specs.Parts.{Copied};
 ghost use Rattle.store.specs.Contents.{total, next_above, rest_of};
 ghost use Rattle.store.specs.Infos.{described};
 ghost use Rattle.heap_store.specs.Held.{held, held_sound};
 
 use crate::rows::number_above;
 use crate::store::HeapStore;
-use bytes::copy::copy_fitting;
+use byte_parts::copy::copy_fitting;
 use store::info::FileInfo;
 use store::read::ReadStore;
 

@@ -1,13 +1,13 @@
 //! The reading questions, over an image.
 ghost use Rattle.std.specs.Prelude.{◌≡◌, drop};
-ghost use Rattle.bytes.specs.Parts.{Copied};
+ghost use Rattle.byte_parts.specs.Parts.{Copied};
 ghost use Rattle.store.specs.Contents.{next_above, rest_of};
 ghost use Rattle.store.specs.Infos.{described};
 ghost use Rattle.image.specs.Held.{held};
 ghost use Rattle.image.specs.HeldSound.{held_sound};
 
 use crate::store::ImageStore;
-use bytes::copy::copy_fitting;
+use byte_parts::copy::copy_fitting;
 use image_format::seek::{find, seek_above};
 use object::name::Name;
 use object::protection::Protection;

@@ -4,7 +4,7 @@ ghost use Rattle.object.specs.Legal.{legal_unit, legal_name};
 ghost use Rattle.object.specs.Names.{units_of, named, name_in};
 
 use crate::name::{MAX_UNITS, Name};
-use bytes::cut::cut_u16;
+use byte_parts::cut::cut_u16;
 
 fn is_legal(unit: u16) -> bool
     ensures { result ≡ legal_unit unit }

@@ -1,5 +1,5 @@
 use Rattle.std.proofs.Common.{replicate}
-use Rattle.bytes.specs.Parts.{fitting}
+use Rattle.byte_parts.specs.Parts.{fitting}
 use Rattle.store.specs.Contents.{rest_of}
 use Rattle.compare.proofs.Chunks.{chunk}
 use Rattle.compare.proofs.bytes.same_chunk.Goals as goal

@@ -1,6 +1,6 @@
 use Rattle.std.proofs.Common.{sym, ap, arith}
 use Rattle.std.proofs.lemmas.List.{get_or-map}
-use Rattle.bytes.specs.Numbers.{le}
+use Rattle.byte_parts.specs.Numbers.{le}
 use Rattle.wire.specs.Operations.{operations, operation_codes}
 use Rattle.wire.proofs.Puts.{put_none, put_same, numbers-room, numbers_more, numbers-all}
 use Rattle.datasets.proofs.device.put_operation_codes.Goals as goal

@@ -1,5 +1,5 @@
 use Rattle.std.proofs.Common.{ap, arith}
-use Rattle.bytes.specs.Numbers.{le}
+use Rattle.byte_parts.specs.Numbers.{le}
 use Rattle.wire.proofs.Puts.{put_then, put_same}
 use Rattle.datasets.proofs.write.put_object_fields.Goals as goal
 

@@ -1,5 +1,5 @@
 use Rattle.std.proofs.Common.{drop, sym, subst}
-use Rattle.bytes.specs.Parts.{Copied}
+use Rattle.byte_parts.specs.Parts.{Copied}
 use Rattle.store.specs.Contents.{bytes_of}
 use Rattle.protocol.specs.Pairs.{storages_of}
 use Rattle.looking.proofs.Files.{at_first, at_second}

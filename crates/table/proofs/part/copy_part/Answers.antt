@@ -1,5 +1,5 @@
 use Rattle.std.proofs.Common.{take, drop, sym, subst, arith}
-use Rattle.bytes.specs.Parts.{Copied}
+use Rattle.byte_parts.specs.Parts.{Copied}
 use Rattle.table.proofs.Parts.{copied_none, part_none, part_is}
 use Rattle.table.proofs.part.copy_part.Goals as goal
 

@@ -1,6 +1,6 @@
 use Rattle.std.proofs.Common.{◌≡◌, ℕ, ◌+◌, ◌-◌, List, length, take, drop, vec_items, sym, ap, ◌∙◌, subst, arith}
 use Rattle.std.proofs.lemmas.List.{drop_all}
-use Rattle.bytes.specs.Parts.{Copied}
+use Rattle.byte_parts.specs.Parts.{Copied}
 use Rattle.store.specs.Contents.{bytes_of, rest_of}
 use Rattle.heap_store.specs.Held.{held}
 use Rattle.heap_store.proofs.Read.{part_is, copied_none}

@@ -1,6 +1,6 @@
 use Rattle.std.proofs.Common.{◌≡◌, [], length, take, drop, sym, refl, ap, ◌∙◌, arith}
 use lib.Seq.{take-nil, drop-nil}
-use Rattle.bytes.specs.Parts.{fitting, over}
+use Rattle.byte_parts.specs.Parts.{fitting, over}
 use Rattle.store.specs.Contents.{bytes_of, rest_of}
 use Rattle.image_format.specs.Walk.{plain_of}
 use Rattle.image.specs.Held.{held}

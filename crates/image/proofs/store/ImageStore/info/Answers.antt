@@ -1,6 +1,6 @@
 use Rattle.std.proofs.Common.{◌≡◌, ◌≤◌, length, Some, sym, ap, ◌∙◌, rules}
 use Rattle.std.specs.Option.{option_map}
-use Rattle.bytes.proofs.Cutting.{none_some}
+use Rattle.byte_parts.proofs.Cutting.{none_some}
 use Rattle.store.specs.Infos.{info_of}
 use Rattle.image_format.specs.Walk.{plain_of}
 use Rattle.image.proofs.Asked.{told-some, told_none, body-short, info_told}

@@ -1,5 +1,5 @@
 use Rattle.std.proofs.Common.{ap, ◌∙◌}
-use Rattle.bytes.specs.Parts.{over}
+use Rattle.byte_parts.specs.Parts.{over}
 use Rattle.responder.specs.Replies.{tells}
 use Rattle.responder.proofs.responder.Responder.serve.Goals as goal
 

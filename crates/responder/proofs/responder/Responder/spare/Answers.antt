@@ -1,5 +1,5 @@
 use Rattle.std.proofs.Common.{Err, sym, refl, ap, ◌∙◌}
-use Rattle.bytes.specs.Parts.{over}
+use Rattle.byte_parts.specs.Parts.{over}
 use Rattle.protocol.specs.Machine.{cancelled, gate}
 use Rattle.responder.specs.Replies.{told_of, tells}
 use Rattle.responder.specs.Sessions.{cancel_fault}

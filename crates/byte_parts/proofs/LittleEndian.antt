@@ -1,7 +1,7 @@
 -- Little-endian numbers read back.
 use Rattle.std.proofs.Common.{◌≡◌, ℕ, zero, suc, ◌+◌, ◌*◌, ◌/◌, ◌%◌, ◌^◌, ◌<◌, ◌≤◌, List, [], ◌∷◌, ◌++◌, length, sym, refl, ap, ◌∙◌, subst, pow-suc, arith}
 use native.Mathlib.Nat.{pow-zero}
-use Rattle.bytes.specs.Numbers.{Bytes, le, value}
+use Rattle.byte_parts.specs.Numbers.{Bytes, le, value}
 
 pub length_le : (k n : ℕ) → length (le k n) ≡ k
 length_le zero n = refl

@@ -1,7 +1,7 @@
 use Rattle.std.proofs.Common.{◌≡◌, length, sym, ap, ◌∙◌, arith}
 use native.Mathlib.Nat.{sub-zero, min-le_left}
-use Rattle.bytes.proofs.Fitting.{fits_min, length_fits_min}
-use Rattle.bytes.proofs.copy.copy_counted.Goals as goal
+use Rattle.byte_parts.proofs.Fitting.{fits_min, length_fits_min}
+use Rattle.byte_parts.proofs.copy.copy_counted.Goals as goal
 
 pub returns : goal.returns
 returns c =
@@ -11,6 +11,6 @@ returns c =
     let bound = min-le_left room (length c.args.from.now) in
     record {
       counts = sym (ap length same ∙ long);
-      bytes = rw same (simp (sub-zero, c.copy-from-slice.ensures.after, long));
+      bytes = rw same (simp (sub-zero, c.copy_from_slice.ensures.after, long));
       bound = omega (arith, c.requires, bound);
     }

@@ -3,9 +3,9 @@ use Rattle.std.proofs.Common.{◌≡◌, ℕ, ◌+◌, ◌^◌, ◌<◌, ◌≤�
 use Rattle.std.proofs.ByRecursion.{All-take, All-drop}
 use Rattle.std.proofs.lemmas.List.{length-append, length-take-le, take-append-drop, take_at, drop_at}
 use Rattle.std.proofs.lemmas.Bool.{leb-true, le-leb, lt-leb, cond-true, cond-false}
-use Rattle.bytes.specs.Numbers.{Bytes, le, value, cut_number}
-use Rattle.bytes.specs.Parts.{cut_part}
-use Rattle.bytes.proofs.LittleEndian.{length_le, value_le, value_bound, le_value}
+use Rattle.byte_parts.specs.Numbers.{Bytes, le, value, cut_number}
+use Rattle.byte_parts.specs.Parts.{cut_part}
+use Rattle.byte_parts.proofs.LittleEndian.{length_le, value_le, value_bound, le_value}
 
 pub none_some : {A : Type 0} {x : A} → None ≡ Some x → ⊥
 none_some e = let z : ◌≡◌ {A = ℕ} 0 1 = cc in omega arith

@@ -1,6 +1,6 @@
 //! A copy of as much as fits.
 ghost use Rattle.std.specs.Prelude.{◌≡◌, min, length};
-ghost use Rattle.bytes.specs.Parts.{Copied};
+ghost use Rattle.byte_parts.specs.Parts.{Copied};
 
 // Copies `count` bytes, which is how many fit and exist.
 fn copy_counted(from: &[u8], into: &mut [u8], count: usize)

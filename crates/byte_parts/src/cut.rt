@@ -1,8 +1,8 @@
 //! Readers that cut what they read off the front, and hand on the rest.
 ghost use Rattle.std.specs.Prelude.{◌≡◌};
 ghost use Rattle.std.specs.Option.{option_map};
-ghost use Rattle.bytes.specs.Numbers.{cut_number};
-ghost use Rattle.bytes.specs.Parts.{cut_part};
+ghost use Rattle.byte_parts.specs.Numbers.{cut_number};
+ghost use Rattle.byte_parts.specs.Parts.{cut_part};
 
 /// The first `len` bytes and the rest, or `None` if there are fewer.
 pub fn cut(bytes: &[u8], len: usize) -> Option<(&[u8], &[u8])>
