@@ -70,6 +70,15 @@ def declared(path, text):
     return {w for w in found if DASHED.match(w)}
 
 
+def imported(text, crates):
+    """The words that a file takes from a lemma file or a file of specs/ of this repository, some of which stand in modules there."""
+    found = set()
+    for module, names in re.findall(r"^(?:ghost )?use ([^\s{}]+)\.\{([^}]*)\}", text, re.M):
+        if any(re.match(rf"Rattle\.{c}\.(specs|proofs)\.[A-Z]\w*(\.|$)", module) for c in crates) and not module.endswith((".Goals", ".Given")):
+            found |= {n.split(" as ")[0].strip() for n in names.split(",")}
+    return {w for w in found if DASHED.match(w)}
+
+
 def borrowed(text, crates):
     """The words that a file takes from elsewhere than this repository's crates."""
     found = set()
@@ -132,6 +141,7 @@ def main():
     for path, text in texts.items():
         if path.endswith(".antt"):
             words |= declared(path, text)
+        words |= imported(text, crates)
     table = {w: spelled(w) for w in sorted(words)}
     taken = set()
     for text in texts.values():

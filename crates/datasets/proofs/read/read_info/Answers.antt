@@ -1,32 +1,32 @@
 use Rattle.std.proofs.Common.{None, sym}
-use Rattle.datasets.proofs.Infos.{too_short, no-filename, not-strings, no-protection, accepted, all_read}
+use Rattle.datasets.proofs.Infos.{too_short, no_filename, not_strings, no_protection, accepted, all_read}
 use Rattle.datasets.proofs.read.read_info.Goals as goal
 
-pub returns-in-err-strings : goal.returns-in-err-strings
-returns-in-err-strings c = rw c.from-residual.ensures (too_short c.args.bytes.now c.in-err-strings.ensures)
+pub returns-in_err-strings : goal.returns-in_err-strings
+returns-in_err-strings c = rw c.from-residual.ensures (too_short c.args.bytes.now c.in_err-strings.ensures)
 
-pub returns-in-err-filename : goal.returns-in-err-filename
-returns-in-err-filename c =
-    rw c.from-residual-in-err-filename.ensures
-    (no-filename c.args.bytes.now _ c.in-ok-strings.strings.now c.in-ok-strings.ensures c.in-err-filename.ensures.value)
+pub returns-in_err-filename : goal.returns-in_err-filename
+returns-in_err-filename c =
+    rw c.from-residual-in_err-filename.ensures
+    (no_filename c.args.bytes.now _ c.in_ok-strings.strings.now c.in_ok-strings.ensures c.in_err-filename.ensures.value)
 
-pub returns-then-not-are-strings : goal.returns-then-not-are-strings
-returns-then-not-are-strings c =
-    not-strings c.args.bytes.now _ c.in-ok-strings.strings.now c.in-ok-strings.ensures c.in-ok-filename.filename.units.now c.in-ok-filename.filename.rest.now c.in-ok-filename.ensures.value (sym c.if-not-are-strings.ensures)
+pub returns-then-not-are_strings : goal.returns-then-not-are_strings
+returns-then-not-are_strings c =
+    not_strings c.args.bytes.now _ c.in_ok-strings.strings.now c.in_ok-strings.ensures c.in_ok-filename.filename.units.now c.in_ok-filename.filename.rest.now c.in_ok-filename.ensures.value (sym c.if-not-are_strings.ensures)
 
-pub returns-in-err-protection : goal.returns-in-err-protection
-returns-in-err-protection c =
-    rw c.from-residual-in-err-protection.ensures
-    (no-protection c.args.bytes.now _ c.in-ok-strings.strings.now c.in-ok-strings.ensures c.in-ok-filename.filename.units.now c.in-ok-filename.filename.rest.now c.in-ok-filename.ensures.value (sym c.if-not-are-strings.ensures)
-    c.in-err-protection.ensures)
+pub returns-in_err-protection : goal.returns-in_err-protection
+returns-in_err-protection c =
+    rw c.from-residual-in_err-protection.ensures
+    (no_protection c.args.bytes.now _ c.in_ok-strings.strings.now c.in_ok-strings.ensures c.in_ok-filename.filename.units.now c.in_ok-filename.filename.rest.now c.in_ok-filename.ensures.value (sym c.if-not-are_strings.ensures)
+    c.in_err-protection.ensures)
 
-pub returns-in-err-name : goal.returns-in-err-name
-returns-in-err-name c =
-    rw c.from-residual-in-err-name.ensures
-    (sym (accepted c.args.bytes.now _ c.in-ok-strings.strings.now c.in-ok-strings.ensures c.in-ok-filename.filename.units.now c.in-ok-filename.filename.rest.now c.in-ok-filename.ensures.value (sym c.if-not-are-strings.ensures)
-    c.in-ok-protection.protection None c.in-ok-protection.ensures c.in-err-name.ensures))
+pub returns-in_err-name : goal.returns-in_err-name
+returns-in_err-name c =
+    rw c.from-residual-in_err-name.ensures
+    (sym (accepted c.args.bytes.now _ c.in_ok-strings.strings.now c.in_ok-strings.ensures c.in_ok-filename.filename.units.now c.in_ok-filename.filename.rest.now c.in_ok-filename.ensures.value (sym c.if-not-are_strings.ensures)
+    c.in_ok-protection.protection None c.in_ok-protection.ensures c.in_err-name.ensures))
 
 pub returns : goal.returns
 returns c =
-    all_read c.args.bytes.now _ c.in-ok-strings.strings.now c.in-ok-strings.ensures c.in-ok-filename.filename.units.now c.in-ok-filename.filename.rest.now c.in-ok-filename.ensures.value (sym c.if-not-are-strings.ensures)
-    c.in-ok-protection.protection c.in-ok-name.name c.in-ok-protection.ensures c.in-ok-name.ensures c.u32-at.ensures c.u16-at.ensures c.u32-at-2.ensures c.u32-at-3.ensures
+    all_read c.args.bytes.now _ c.in_ok-strings.strings.now c.in_ok-strings.ensures c.in_ok-filename.filename.units.now c.in_ok-filename.filename.rest.now c.in_ok-filename.ensures.value (sym c.if-not-are_strings.ensures)
+    c.in_ok-protection.protection c.in_ok-name.name c.in_ok-protection.ensures c.in_ok-name.ensures c.u32_at.ensures c.u16_at.ensures c.u32_at-2.ensures c.u32_at-3.ensures

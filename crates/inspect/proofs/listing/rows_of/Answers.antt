@@ -11,10 +11,10 @@ loop-listed-init g c =
 pub loop-listed-preserved : goal.loop-listed-preserved
 loop-listed-preserved g c =
     let there = (g.S.ReadStore.contents c.args.store.now).files in (
-      row_listed (vec_items c.loop-listed.rows) (vec_items c.push.new.self) c.in-Some.row c.loop-listed.last there (g.S.ReadStore.sound c.args.store.now).ascending c.in-ok-push.ensures.items
-          (found_row c.in-ok-row.field-0 c.in-Some.row (first_of (listed (above c.loop-listed.last there))) c.in-Some.is c.in-ok-row.ensures)
+      row_listed (vec_items c.loop-listed.rows) (vec_items c.push.new.self) c.in-Some.row c.loop-listed.last there (g.S.ReadStore.sound c.args.store.now).ascending c.in_ok-push.ensures.items
+          (found_row c.in_ok-row.field-0 c.in-Some.row (first_of (listed (above c.loop-listed.last there))) c.in-Some.is c.in_ok-row.ensures)
           c.loop-listed.invariant.0,
-      omega (arith, c.in-ok-push.ensures.len, c.loop-listed.invariant.1),
+      omega (arith, c.in_ok-push.ensures.len, c.loop-listed.invariant.1),
     )
 
 pub returns : goal.returns
@@ -26,5 +26,5 @@ returns g c =
           (omega (arith, c.loop-listed.invariant.1, c.loop-listed.rows.ok.0, w.loop-listed-test.false, c.count-listed-end.ensures))
       | then-loop-listed-test+in-ok-row+in-default w ↦
           all_none (vec_items c.loop-listed.rows) c.loop-listed.last there c.loop-listed.invariant.0
-          (found_none w.in-ok-row.field-0 (first_of (listed (above c.loop-listed.last there))) w.in-default.is w.in-ok-row.ensures)
+          (found_none w.in_ok-row.field-0 (first_of (listed (above c.loop-listed.last there))) w.in_default.is w.in_ok-row.ensures)
     ]

@@ -7,15 +7,15 @@ use Rattle.inspect.proofs.report.refusal_of.Goals as goal
 pub returns-then-fault-size : goal.returns-then-fault-size
 returns-then-fault-size c =
     let place = c.args.fault.place in
-    subst (λ bs. IfOk c.missing-line.result (λ s. string_bytes s ≡ bs))
+    subst (λ bs. IfOk c.missing_line.result (λ s. string_bytes s ≡ bs))
     (ap (λ n. missing_line n place) c.number.ensures
     ∙ sym (cond-true (eqb place c.args.size) (missing_line spoilt_image_number place) (wrong_line spoilt_image_number place) (eq-eqb place c.args.size c.if-fault-size.true)))
-    c.missing-line.ensures
+    c.missing_line.ensures
 
 pub returns-else-fault-size : goal.returns-else-fault-size
 returns-else-fault-size c =
     let place = c.args.fault.place in
-    subst (λ bs. IfOk c.wrong-line.result (λ s. string_bytes s ≡ bs))
+    subst (λ bs. IfOk c.wrong_line.result (λ s. string_bytes s ≡ bs))
     (ap (λ n. wrong_line n place) c.number-else-fault-size.ensures
     ∙ sym (cond-false (eqb place c.args.size) (missing_line spoilt_image_number place) (wrong_line spoilt_image_number place) (ne_eqb place c.args.size c.if-fault-size.false)))
-    c.wrong-line.ensures
+    c.wrong_line.ensures

@@ -3,10 +3,10 @@ use Rattle.image_format.specs.Parsed.{parsed}
 use Rattle.inspect.proofs.Refused.{refusal_told}
 use Rattle.inspect.proofs.report.report_of.Goals as goal
 
-pub returns-in-ok-refusal-of : goal.returns-in-ok-refusal-of
-returns-in-ok-refusal-of c =
+pub returns-in_ok-refusal_of : goal.returns-in_ok-refusal_of
+returns-in_ok-refusal_of c =
     let verdict = sym c.in-Err.is ∙ c.open-opened.ensures.verdict in
     record {
       verdict = ap is_err verdict;
-      refusal = refusal_told (parsed c.args.image.now) c.in-Err.fault (string_bytes c.in-ok-refusal-of.field-0) (length c.args.image.now) verdict c.in-ok-refusal-of.ensures;
+      refusal = refusal_told (parsed c.args.image.now) c.in-Err.fault (string_bytes c.in_ok-refusal_of.field-0) (length c.args.image.now) verdict c.in_ok-refusal_of.ensures;
     }

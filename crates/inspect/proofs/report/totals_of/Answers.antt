@@ -4,6 +4,6 @@ use Rattle.inspect.proofs.report.totals_of.Goals as goal
 
 pub returns : goal.returns
 returns g c =
-    subst (λ bs. IfOk c.totals-line.result (λ s. string_bytes s ≡ bs))
+    subst (λ bs. IfOk c.totals_line.result (λ s. string_bytes s ≡ bs))
     (λ i. totals_line (c.count.ensures i) (c.limit.ensures i) (c.total.ensures i) (c.capacity.ensures i))
-    c.totals-line.ensures
+    c.totals_line.ensures

@@ -9,4 +9,4 @@ loop-sign-smaller c = sign_less c.loop-sign.rest.now (c.in-Some.sign, c.in-Some.
 
 pub loop-sign-preserved : goal.loop-sign-preserved
 loop-sign-preserved c =
-    sign_added (string_bytes c.loop-sign.text) (string_bytes c.push-sign.new.text) (string_bytes c.args.text.now ++ units_text (units_of c.args.name.now)) c.loop-sign.rest.now c.in-Some.behind.now c.in-Some.sign c.in-ok-push-sign.ensures (sym c.in-Some.ensures) c.loop-sign.invariant
+    sign_added (string_bytes c.loop-sign.text) (string_bytes c.push_sign.new.text) (string_bytes c.args.text.now ++ units_text (units_of c.args.name.now)) c.loop-sign.rest.now c.in-Some.behind.now c.in-Some.sign c.in_ok-push_sign.ensures (sym c.in-Some.ensures) c.loop-sign.invariant

@@ -10,16 +10,16 @@ use Rattle.protocol.specs.Pairs.{storages_of}
 use Rattle.looking.proofs.Looks.{info_is, look_shown, look_refused}
 use Rattle.looking.proofs.objects.get_object_info.Goals as goal
 
-pub returns-in-err-file : goal.returns-in-err-file
-returns-in-err-file g c =
+pub returns-in_err-file : goal.returns-in_err-file
+returns-in_err-file g c =
     let p = storages_of g.W.ReadStore g.W.WriteStore g.R.ReadStore c.args.first.now c.args.second.now in
     let k = c.args.command.now in
     let q = err_from_is_err_and c.from-residual.result c.from-residual.ensures.1 in
-    look_refused k _ _ _ _ (info_is p (parameter 1 k) ∙ ap (shows_with (λ f. object_info (object_told (parameter 1 k) f))) (sym c.in-err-file.ensures.value)) (ap result_told (q.1 ∙ ap Err q.2))
+    look_refused k _ _ _ _ (info_is p (parameter 1 k) ∙ ap (shows_with (λ f. object_info (object_told (parameter 1 k) f))) (sym c.in_err-file.ensures.value)) (ap result_told (q.1 ∙ ap Err q.2))
 
 pub returns : goal.returns
 returns g c =
     let p = storages_of g.W.ReadStore g.W.WriteStore g.R.ReadStore c.args.first.now c.args.second.now in
     let k = c.args.command.now in
-    look_shown k _ _ [] (object_info (object_told (parameter 1 k) c.in-ok-file.file)) _ _ _ _ (info_is p (parameter 1 k) ∙ ap (shows_with (λ f. object_info (object_told (parameter 1 k) f))) (sym c.in-ok-file.ensures.value)) c.none.ensures c.shown.ensures
-    (c.write-object-info-written.ensures.value ∙ ap (λ i. placed (data_of k (object_info i)) c.args.buffer.now) c.object-told-info.ensures)
+    look_shown k _ _ [] (object_info (object_told (parameter 1 k) c.in_ok-file.file)) _ _ _ _ (info_is p (parameter 1 k) ∙ ap (shows_with (λ f. object_info (object_told (parameter 1 k) f))) (sym c.in_ok-file.ensures.value)) c.none.ensures c.shown.ensures
+    (c.write_object_info-written.ensures.value ∙ ap (λ i. placed (data_of k (object_info i)) c.args.buffer.now) c.object_told-info.ensures)

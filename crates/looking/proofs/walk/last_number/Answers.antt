@@ -17,4 +17,4 @@ loop-number-smaller g c =
     fewer _ _ _ (step 0 c.loop-number.last c.in-Some.number (g.S.ReadStore.contents c.args.store.now).files sound.ascending c.in-Some.ensures)
 
 pub returns : goal.returns
-returns g c = record { value = add-one c.loop-number.last ∙ sym (past_end _ _ c.in-default.ensures) ∙ c.loop-number.invariant.0; bound = c.loop-number.invariant.1 }
+returns g c = record { value = add-one c.loop-number.last ∙ sym (past_end _ _ c.in_default.ensures) ∙ c.loop-number.invariant.0; bound = c.loop-number.invariant.1 }

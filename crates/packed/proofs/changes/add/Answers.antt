@@ -2,13 +2,13 @@ use Rattle.std.proofs.Common.{false, sym, refl, ap, ◌∙◌, arith}
 use Rattle.store.specs.Changing.{file_of, contents_after}
 use Rattle.store.specs.Changes.{added}
 use Rattle.lent.specs.Kept.{held_in}
-use Rattle.packed.proofs.Adding.{admitted, rank-within, row-spare, bytes-spare, bytes-bounded, holds_after, packed-after}
+use Rattle.packed.proofs.Adding.{admitted, rank_within, row_spare, bytes_spare, bytes_bounded, holds_after, packed_after}
 use Rattle.packed.proofs.changes.add.Goals as goal
 
-pub overflow-cast-place : goal.overflow-cast-place
-overflow-cast-place c =
+pub overflow_cast-place : goal.overflow_cast-place
+overflow_cast-place c =
     let f = file_of c.args.file.now c.args.bytes.now in
-    let a = admitted c.args.number f (held_in c.args.memory.now) (added false c.args.number f (held_in c.args.memory.now)) refl c.in-ok-admit.ensures in
+    let a = admitted c.args.number f (held_in c.args.memory.now) (added false c.args.number f (held_in c.args.memory.now)) refl c.in_ok-admit.ensures in
     omega (arith, a.fits.short)
 
 pub append-requires : goal.append-requires
@@ -18,13 +18,13 @@ append-requires c =
     let f = c.args.file.now in
     let new = c.args.bytes.now in
     let i = c.rank-i.result in
-    let a = admitted n (file_of f new) (held_in m) (added false n (file_of f new) (held_in m)) refl c.in-ok-admit.ensures in
+    let a = admitted n (file_of f new) (held_in m) (added false n (file_of f new) (held_in m)) refl c.in_ok-admit.ensures in
     let r = c.rank-i.ensures in
     record {
-      rank = rank-within m i n f new c.requires a r;
-      spare = row-spare m i n f new c.requires a r;
-      room = bytes-spare m i n f new c.requires a r;
-      fits = omega (arith, bytes-bounded m i n f new c.requires a r);
+      rank = rank_within m i n f new c.requires a r;
+      spare = row_spare m i n f new c.requires a r;
+      room = bytes_spare m i n f new c.requires a r;
+      fits = omega (arith, bytes_bounded m i n f new c.requires a r);
     }
 
 pub returns : goal.returns
@@ -35,11 +35,11 @@ returns c =
     let f = c.args.file.now in
     let new = c.args.bytes.now in
     let i = c.rank-i.result in
-    let a = admitted n (file_of f new) (held_in m) (added false n (file_of f new) (held_in m)) refl c.in-ok-admit.ensures in
+    let a = admitted n (file_of f new) (held_in m) (added false n (file_of f new) (held_in m)) refl c.in_ok-admit.ensures in
     let r = c.rank-i.ensures in
     let e = c.append.ensures in
     record {
-      packed = packed-after m i n f new c.requires a r t e.table e.bytes e.count e.total;
-      result = c.in-ok-admit.ensures;
+      packed = packed_after m i n f new c.requires a r t e.table e.bytes e.count e.total;
+      result = c.in_ok-admit.ensures;
       contents = holds_after m i n f new c.requires a r t e.table e.bytes e.count e.total ∙ sym (ap (contents_after (held_in m)) a.gives);
     }

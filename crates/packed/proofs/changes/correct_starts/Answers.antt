@@ -4,5 +4,5 @@ use Rattle.packed.proofs.changes.correct_starts.Goals as goal
 
 pub loop-k-preserved : goal.loop-k-preserved
 loop-k-preserved c =
-    corrected_more c.args.gap c.args.places.now c.loop-k.places c.loop-k.k c.moved-start.result c.index-places-k-in-loop-k.result c.index-places-k.result
-    (omega arith) (omega arith) c.loop-k.invariant c.moved-start.ensures
+    corrected_more c.args.gap c.args.places.now c.loop-k.places c.loop-k.k c.moved_start.result c.index-places-k-in-loop-k.result c.index-places-k.result
+    (omega arith) (omega arith) c.loop-k.invariant c.moved_start.ensures

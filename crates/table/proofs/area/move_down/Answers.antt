@@ -10,12 +10,12 @@ loop-to-preserved c =
     let d = c.args.bytes.now in
     let i = c.loop-to.invariant in
     let m = c.min-count.result in
-    let kept : length c.copy-down.new.chunk ≡ length c.loop-to.chunk = c.copy-down.auto.chunk in
+    let kept : length c.copy_down.new.chunk ≡ length c.loop-to.chunk = c.copy_down.auto.chunk in
     let less : m ≤ 256 = omega arith in
     let fits : c.loop-to.to + c.args.len + m ≤ length d = omega arith in (
       omega arith,
       omega arith,
-      c.copy-down.ensures ∙ chunk_more d c.loop-to.bytes c.args.at c.args.len c.loop-to.to m i.0 fits i.2,
+      c.copy_down.ensures ∙ chunk_more d c.loop-to.bytes c.args.at c.args.len c.loop-to.to m i.0 fits i.2,
       kept ∙ i.3,
     )
 

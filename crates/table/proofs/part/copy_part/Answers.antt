@@ -10,4 +10,4 @@ returns-then-offset-length c =
 
 pub returns : goal.returns
 returns c =
-    rw (part_is c.args.length c.args.offset c.args.start c.args.bytes.now (omega arith)) c.copy-fitting.ensures
+    rw (part_is c.args.length c.args.offset c.args.start c.args.bytes.now (omega arith)) c.copy_fitting.ensures

@@ -4,4 +4,4 @@ use Rattle.table.proofs.place.spare_name.Goals as goal
 
 pub unwrap-requires : goal.unwrap-requires
 unfolding legal_name
-unwrap-requires c = c.from-units.ensures.legal
+unwrap-requires c = c.from_units.ensures.legal

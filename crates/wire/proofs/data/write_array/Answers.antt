@@ -10,18 +10,18 @@ returns-then-out-count c =
     let hs = c.args.list.now in
     record { value = data-short c.args.code c.args.transaction (4 + 4 * length hs) (array 4 hs) c.args.out.now c.args.out.now (sym (length-array 4 hs)) (omega arith); law = array_back }
 
-pub returns-in-err-next : goal.returns-in-err-next
-returns-in-err-next c =
+pub returns-in_err-next : goal.returns-in_err-next
+returns-in_err-next c =
     let hs = c.args.list.now in
     let p = err_from_is_err_and c.from-residual.result c.from-residual.ensures.1 in
-    rw (p.1, p.2) (record { value = data-refused c.args.code c.args.transaction (4 + 4 * length hs) (array 4 hs) c.args.out.now c.write-data-head.new.out (sym (length-array 4 hs)) c.in-err-next.field-0.0 c.in-err-next.ensures.value; law = array_back })
+    rw (p.1, p.2) (record { value = data-refused c.args.code c.args.transaction (4 + 4 * length hs) (array 4 hs) c.args.out.now c.write_data_head.new.out (sym (length-array 4 hs)) c.in_err-next.field-0.0 c.in_err-next.ensures.value; law = array_back })
 
-pub put-array-requires : goal.put-array-requires
-put-array-requires c =
+pub put_array-requires : goal.put_array-requires
+put_array-requires c =
     let hs = c.args.list.now in
-    data-room c.args.code c.args.transaction (4 + 4 * length hs) (array 4 hs) c.args.out.now c.write-data-head.new.out (sym (length-array 4 hs)) c.in-ok-next.next c.in-ok-next.ensures.value
+    data-room c.args.code c.args.transaction (4 + 4 * length hs) (array 4 hs) c.args.out.now c.write_data_head.new.out (sym (length-array 4 hs)) c.in_ok-next.next c.in_ok-next.ensures.value
 
 pub returns : goal.returns
 returns c =
     let hs = c.args.list.now in
-    record { value = data-placed c.args.code c.args.transaction (4 + 4 * length hs) (array 4 hs) c.args.out.now c.write-data-head.new.out (sym (length-array 4 hs)) c.in-ok-next.next c.in-ok-next.ensures.value c.put-array.ensures; law = array_back }
+    record { value = data-placed c.args.code c.args.transaction (4 + 4 * length hs) (array 4 hs) c.args.out.now c.write_data_head.new.out (sym (length-array 4 hs)) c.in_ok-next.next c.in_ok-next.ensures.value c.put_array.ensures; law = array_back }

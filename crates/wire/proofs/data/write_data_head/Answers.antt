@@ -7,12 +7,12 @@ use Rattle.wire.proofs.data.write_data_head.Goals as goal
 pub returns-then-not-holds : goal.returns-then-not-holds
 returns-then-not-holds c = record { value = search rules; whole = heads-join }
 
-pub put-head-requires : goal.put-head-requires
-put-head-requires c = leb-true (12 + c.args.len) (length c.args.out.now) (sym c.if-not-holds.ensures)
+pub put_head-requires : goal.put_head-requires
+put_head-requires c = leb-true (12 + c.args.len) (length c.args.out.now) (sym c.if-not-holds.ensures)
 
 pub returns : goal.returns
 returns c =
     record {
-      value = placed-is (12 + c.args.len) c.put-head.ensures (leb-true (12 + c.args.len) (length c.args.out.now) (sym c.if-not-holds.ensures));
+      value = placed-is (12 + c.args.len) c.put_head.ensures (leb-true (12 + c.args.len) (length c.args.out.now) (sym c.if-not-holds.ensures));
       whole = heads-join;
     }

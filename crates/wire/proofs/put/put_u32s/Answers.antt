@@ -1,16 +1,16 @@
 use Rattle.std.proofs.Common.{arith}
-use Rattle.wire.proofs.Puts.{put_none, numbers-room, numbers_more, numbers-all}
+use Rattle.wire.proofs.Puts.{put_none, numbers_room, numbers_more, numbers_all}
 use Rattle.wire.proofs.put.put_u32s.Goals as goal
 
 pub loop-number-init : goal.loop-number-init
 loop-number-init c = put_none c.args.place c.args.out.now (omega arith)
 
-pub put-u32-next-requires : goal.put-u32-next-requires
-put-u32-next-requires c = numbers-room 4 c.loop-number.number-index c.args.list.now c.loop-number.invariant (omega arith) c.requires
+pub put_u32-next-requires : goal.put_u32-next-requires
+put_u32-next-requires c = numbers_room 4 c.loop-number.number-index c.args.list.now c.loop-number.invariant (omega arith) c.requires
 
 pub loop-number-preserved : goal.loop-number-preserved
 loop-number-preserved c =
-    numbers_more 4 c.loop-number.number-index c.args.list.now c.loop-number.invariant (omega arith) c.put-u32-next.ensures
+    numbers_more 4 c.loop-number.number-index c.args.list.now c.loop-number.invariant (omega arith) c.put_u32-next.ensures
 
 pub returns : goal.returns
-returns c = numbers-all 4 c.loop-number.number-index c.args.list.now c.loop-number.invariant (omega arith)
+returns c = numbers_all 4 c.loop-number.number-index c.args.list.now c.loop-number.invariant (omega arith)

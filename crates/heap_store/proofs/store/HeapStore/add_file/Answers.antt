@@ -6,21 +6,21 @@ use Rattle.heap_store.specs.Held.{held}
 use Rattle.heap_store.proofs.Checked.{addition_done, addition_refused}
 use Rattle.heap_store.proofs.store.HeapStore.add_file.Goals as goal
 
-pub returns-in-err-check-addition : goal.returns-in-err-check-addition
-returns-in-err-check-addition c =
+pub returns-in_err-check_addition : goal.returns-in_err-check_addition
+returns-in_err-check_addition c =
     let f : File = file_of c.args.file.now c.args.bytes.now in
     let before : Contents = held c.args.self.now in
-    let fault = c.in-err-check-addition.field-0.0 in
+    let fault = c.in_err-check_addition.field-0.0 in
     let p = err_from_is_err_and c.from-residual.result c.from-residual.ensures.1 in
-    let e = addition_refused c.args.number f before fault (sym c.check-addition.ensures ∙ c.in-err-check-addition.was) in
+    let e = addition_refused c.args.number f before fault (sym c.check_addition.ensures ∙ c.in_err-check_addition.was) in
     record { result = p.1 ∙ ap (λ x. Err x) p.2 ∙ sym (ap result_of e); contents = sym (ap (contents_after before) e) }
 
 pub put-requires : goal.put-requires
-put-requires c = sym c.check-addition.ensures ∙ c.in-ok-check-addition.was
+put-requires c = sym c.check_addition.ensures ∙ c.in_ok-check_addition.was
 
 pub returns : goal.returns
 returns c =
     let f : File = file_of c.args.file.now c.args.bytes.now in
     let before : Contents = held c.args.self.now in
-    let e = addition_done c.args.number f before (sym c.check-addition.ensures ∙ c.in-ok-check-addition.was) in
+    let e = addition_done c.args.number f before (sym c.check_addition.ensures ∙ c.in_ok-check_addition.was) in
     record { result = sym (ap result_of e); contents = c.put.ensures ∙ sym (ap (contents_after before) e) }

@@ -18,7 +18,7 @@ returns-in-Some c =
     ap (λ z. take (start + size - (start + skipped)) (drop (start + skipped) z)) c.deref.ensures.value
     ∙ part_is (vec_items s.memory.bytes) start size c.args.offset skipped c.min-skipped.ensures
     ∙ sym (ap (λ o. drop c.args.offset (bytes_of o)) c.in-Some.ensures.file) in
-    subst (λ z. Copied z c.args.into.now c.copy-fitting.new.into c.copy-fitting.result) e c.copy-fitting.ensures
+    subst (λ z. Copied z c.args.into.now c.copy_fitting.new.into c.copy_fitting.result) e c.copy_fitting.ensures
 
 pub returns-in-None : goal.returns-in-None
 returns-in-None c =

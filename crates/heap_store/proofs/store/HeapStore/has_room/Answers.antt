@@ -2,8 +2,8 @@ use Rattle.std.proofs.Common.{◌-◌, ◌<◌, ◌≤◌, ltb, leb, ap, ◌∙�
 use Rattle.heap_store.proofs.Kept.{total_bound, room_then, room_else}
 use Rattle.heap_store.proofs.store.HeapStore.has_room.Goals as goal
 
-pub overflow-sub-result : goal.overflow-sub-result
-overflow-sub-result c = omega (arith, c.len-then-len-self.ensures, total_bound c.args.self.now)
+pub overflow_sub-result : goal.overflow_sub-result
+overflow_sub-result c = omega (arith, c.len-then-len-self.ensures, total_bound c.args.self.now)
 
 pub returns-then-len-self : goal.returns-then-len-self
 returns-then-len-self c =

@@ -7,7 +7,7 @@ use Rattle.heap_store.proofs.store.HeapStore.info.Goals as goal
 pub returns : goal.returns
 returns c =
     let s = c.args.self.now in
-    let f = c.in-ok-found.found in
-    let told = c.in-ok-found.ensures in
+    let f = c.in_ok-found.found in
+    let told = c.in_ok-found.ensures in
     ap (λ i. Some i) (sym (info_stored (vec_items s.memory.bytes) f (subst (λ n. f.place.start + f.row.file.length ≤ n) s.memory.bytes.ok.0 told.within)))
     ∙ sym (ap (option_map info_of) told.file)

@@ -6,5 +6,5 @@ use Rattle.heap_store.proofs.store.HeapStore.next_number.Goals as goal
 pub returns : goal.returns
 returns c =
     let s = c.args.self.now in
-    c.number-above.ensures ∙ ap (number_above c.args.number) c.deref.ensures.value
+    c.number_above.ensures ∙ ap (number_above c.args.number) c.deref.ensures.value
     ∙ sym (above_files c.args.number (vec_items s.memory.rows) (vec_items s.memory.bytes))

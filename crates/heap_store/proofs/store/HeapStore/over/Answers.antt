@@ -4,12 +4,12 @@ use Rattle.store.specs.Sound.{max_capacity, max_files}
 use Rattle.heap_store.proofs.Kept.{keeps_none}
 use Rattle.heap_store.proofs.store.HeapStore.over.Goals as goal
 
-pub invariant-of-result : goal.invariant-of-result
-invariant-of-result c =
+pub invariant_of-result : goal.invariant_of-result
+invariant_of-result c =
     let limit = c.args.limit in
     let capacity = c.args.capacity in
     let sizes = and_parts (leb limit max_files) (leb capacity max_capacity) c.requires.sizes in
     let k =
     keeps_none capacity limit c.args.memory (leb-true capacity max_capacity sizes.1) (leb-true limit max_files sizes.0)
-    c.requires.no_rows c.requires.no_bytes c.requires.row_room c.requires.byte-room in
+    c.requires.no_rows c.requires.no_bytes c.requires.row_room c.requires.byte_room in
     (k.0, (k.1, (k.2, (k.3, tt))))

@@ -3,5 +3,5 @@ use Rattle.heap_store.specs.Rows.{taken}
 use Rattle.heap_store.proofs.Kept.{taken_small}
 use Rattle.heap_store.proofs.store.HeapStore.place_for.Goals as goal
 
-pub place-for-requires : goal.place-for-requires
-place-for-requires c = subst (λ rs. taken rs < 2 ^ 32) (sym c.deref.ensures.value) (taken_small c.args.self.now)
+pub place_for-requires : goal.place_for-requires
+place_for-requires c = subst (λ rs. taken rs < 2 ^ 32) (sym c.deref.ensures.value) (taken_small c.args.self.now)

@@ -1,20 +1,20 @@
 use Rattle.std.proofs.Common.{vec_items, ap, ◌∙◌}
 use Rattle.heap_store.specs.Rows.{holding, without_row}
-use Rattle.heap_store.proofs.Removing.{rank_below, bytes-within, after_is, kept-removed}
+use Rattle.heap_store.proofs.Removing.{rank_below, bytes_within, after_is, kept_removed}
 use Rattle.heap_store.proofs.store.HeapStore.take.Goals as goal
 
 pub take-requires : goal.take-requires
 take-requires c =
     record {
       rank = rank_below c.args.found.row.number c.args.self.now c.args.found c.requires;
-      bytes = bytes-within c.args.found.row.number c.args.self.now c.args.found c.requires;
+      bytes = bytes_within c.args.found.row.number c.args.self.now c.args.found c.requires;
     }
 
-pub invariant-of-self : goal.invariant-of-self
-invariant-of-self c =
+pub invariant_of-self : goal.invariant_of-self
+invariant_of-self c =
     let t = c.take.ensures in
     let k =
-    kept-removed c.args.found.row.number c.args.self.now c.args.found c.requires c.take.new.self t.rows t.bytes t.room-for-rows t.room-for-bytes in
+    kept_removed c.args.found.row.number c.args.self.now c.args.found c.requires c.take.new.self t.rows t.bytes t.room_for_rows t.room_for_bytes in
     (k.0, (k.1, (k.2, (k.3, tt))))
 
 pub returns : goal.returns

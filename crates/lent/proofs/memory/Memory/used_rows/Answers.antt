@@ -4,8 +4,8 @@ use Rattle.lent.specs.Kept.{held_in}
 use Rattle.table.proofs.Columns.{files_length}
 use Rattle.lent.proofs.memory.Memory.used_rows.Goals as goal
 
-pub overflow-cast-result : goal.overflow-cast-result
-overflow-cast-result c = let s = sound_from (held_in c.args.self.now) c.requires.1 in omega (arith, s.limit_bound, c.requires.0.0)
+pub overflow_cast-result : goal.overflow_cast-result
+overflow_cast-result c = let s = sound_from (held_in c.args.self.now) c.requires.1 in omega (arith, s.limit_bound, c.requires.0.0)
 
 pub returns : goal.returns
 returns c =

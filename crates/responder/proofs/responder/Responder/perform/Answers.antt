@@ -11,16 +11,16 @@ use Rattle.responder.proofs.Acts.{state_same}
 use Rattle.responder.proofs.Performing.{refused_performed, gate_stops, gate_closed, gate_open}
 use Rattle.responder.proofs.responder.Responder.perform.Goals as goal
 
-pub returns-in-err-admitted : goal.returns-in-err-admitted
+pub returns-in_err-admitted : goal.returns-in_err-admitted
 unfolding answered
-returns-in-err-admitted g c =
+returns-in_err-admitted g c =
     let p = storages_of g.W.ReadStore g.W.WriteStore g.R.ReadStore c.args.self.now.first.now c.args.self.now.second.now in
     let k = c.args.command.now in
     let host = c.args.host.now in
     let buffer = c.args.buffer.now in
     let v = gate c.args.self.now.session.session k in
     let q = err_from_is_err_and c.from-residual.result c.from-residual.ensures.1 in
-    let e = c.in-err-admitted.ensures in
+    let e = c.in_err-admitted.ensures in
     record {
       performed = subst (λ a. Performed a k c.from-residual.result buffer buffer (state_of g.W.ReadStore g.W.WriteStore g.R.ReadStore (record { first = c.args.self.now.first; second = c.args.self.now.second; session = c.admit.new.self })))
           (sym (gate_stops v _ p k host (length buffer) e.result))
@@ -28,17 +28,17 @@ returns-in-err-admitted g c =
       lender = refl;
     }
 
-pub returns-then-has-surplus : goal.returns-then-has-surplus
+pub returns-then-has_surplus : goal.returns-then-has_surplus
 unfolding answered
-returns-then-has-surplus g c =
+returns-then-has_surplus g c =
     let p = storages_of g.W.ReadStore g.W.WriteStore g.R.ReadStore c.args.self.now.first.now c.args.self.now.second.now in
     let k = c.args.command.now in
     let host = c.args.host.now in
     let buffer = c.args.buffer.now in
     let v = gate c.args.self.now.session.session k in
-    let e = c.in-ok-admitted.ensures in
+    let e = c.in_ok-admitted.ensures in
     let w = gate_closed v c.in-WhileClosed.operation (ap Ok (sym c.in-WhileClosed.is) ∙ e.result) in
-    let is = ap (λ z. served z p k host (length buffer)) w ∙ ap (λ t. cond t (refused ParameterNotSupported p (Closed) k) (performed_closed p k (length buffer))) (sym c.if-has-surplus.ensures) in
+    let is = ap (λ z. served z p k host (length buffer)) w ∙ ap (λ t. cond t (refused ParameterNotSupported p (Closed) k) (performed_closed p k (length buffer))) (sym c.if-has_surplus.ensures) in
     record {
       performed = subst (λ a. Performed a k (Err ParameterNotSupported) buffer buffer (state_of g.W.ReadStore g.W.WriteStore g.R.ReadStore (record { first = c.args.self.now.first; second = c.args.self.now.second; session = c.admit.new.self })))
           (sym is)
@@ -46,34 +46,34 @@ returns-then-has-surplus g c =
       lender = refl;
     }
 
-pub returns-else-has-surplus : goal.returns-else-has-surplus
+pub returns-else-has_surplus : goal.returns-else-has_surplus
 unfolding answered
-returns-else-has-surplus g c =
+returns-else-has_surplus g c =
     let p = storages_of g.W.ReadStore g.W.WriteStore g.R.ReadStore c.args.self.now.first.now c.args.self.now.second.now in
     let k = c.args.command.now in
     let host = c.args.host.now in
     let buffer = c.args.buffer.now in
     let v = gate c.args.self.now.session.session k in
-    let e = c.in-ok-admitted.ensures in
+    let e = c.in_ok-admitted.ensures in
     let w = gate_closed v c.in-WhileClosed.operation (ap Ok (sym c.in-WhileClosed.is) ∙ e.result) in
-    let is = ap (λ z. served z p k host (length buffer)) w ∙ ap (λ t. cond t (refused ParameterNotSupported p (Closed) k) (performed_closed p k (length buffer))) (sym c.if-has-surplus.ensures) in
+    let is = ap (λ z. served z p k host (length buffer)) w ∙ ap (λ t. cond t (refused ParameterNotSupported p (Closed) k) (performed_closed p k (length buffer))) (sym c.if-has_surplus.ensures) in
     record {
-      performed = subst (λ a. Performed a k c.perform-closed.result buffer c.perform-closed.new.buffer (state_of g.W.ReadStore g.W.WriteStore g.R.ReadStore c.perform-closed.new.self))
-          (sym is) c.perform-closed.ensures.performed;
-      lender = c.perform-closed.ensures.lender;
+      performed = subst (λ a. Performed a k c.perform_closed.result buffer c.perform_closed.new.buffer (state_of g.W.ReadStore g.W.WriteStore g.R.ReadStore c.perform_closed.new.self))
+          (sym is) c.perform_closed.ensures.performed;
+      lender = c.perform_closed.ensures.lender;
     }
 
-pub returns-then-has-surplus-2 : goal.returns-then-has-surplus-2
+pub returns-then-has_surplus-2 : goal.returns-then-has_surplus-2
 unfolding answered
-returns-then-has-surplus-2 g c =
+returns-then-has_surplus-2 g c =
     let p = storages_of g.W.ReadStore g.W.WriteStore g.R.ReadStore c.args.self.now.first.now c.args.self.now.second.now in
     let k = c.args.command.now in
     let host = c.args.host.now in
     let buffer = c.args.buffer.now in
     let v = gate c.args.self.now.session.session k in
-    let e = c.in-ok-admitted.ensures in
+    let e = c.in_ok-admitted.ensures in
     let w = gate_open v c.in-WhileOpen.operation c.in-WhileOpen.session (ap Ok (sym c.in-WhileOpen.is) ∙ e.result) in
-    let is = ap (λ z. served z p k host (length buffer)) w ∙ ap (λ t. cond t (refused ParameterNotSupported p (Open c.in-WhileOpen.session) k) (performed (task_of k.code) p c.in-WhileOpen.session k host (length buffer))) (sym c.if-has-surplus-2.ensures) in
+    let is = ap (λ z. served z p k host (length buffer)) w ∙ ap (λ t. cond t (refused ParameterNotSupported p (Open c.in-WhileOpen.session) k) (performed (task_of k.code) p c.in-WhileOpen.session k host (length buffer))) (sym c.if-has_surplus-2.ensures) in
     record {
       performed = subst (λ a. Performed a k (Err ParameterNotSupported) buffer buffer (state_of g.W.ReadStore g.W.WriteStore g.R.ReadStore (record { first = c.args.self.now.first; second = c.args.self.now.second; session = c.admit.new.self })))
           (sym is)
@@ -81,19 +81,19 @@ returns-then-has-surplus-2 g c =
       lender = refl;
     }
 
-pub returns-else-has-surplus-2 : goal.returns-else-has-surplus-2
+pub returns-else-has_surplus-2 : goal.returns-else-has_surplus-2
 unfolding answered
-returns-else-has-surplus-2 g c =
+returns-else-has_surplus-2 g c =
     let p = storages_of g.W.ReadStore g.W.WriteStore g.R.ReadStore c.args.self.now.first.now c.args.self.now.second.now in
     let k = c.args.command.now in
     let host = c.args.host.now in
     let buffer = c.args.buffer.now in
     let v = gate c.args.self.now.session.session k in
-    let e = c.in-ok-admitted.ensures in
+    let e = c.in_ok-admitted.ensures in
     let w = gate_open v c.in-WhileOpen.operation c.in-WhileOpen.session (ap Ok (sym c.in-WhileOpen.is) ∙ e.result) in
-    let is = ap (λ z. served z p k host (length buffer)) w ∙ ap (λ t. cond t (refused ParameterNotSupported p (Open c.in-WhileOpen.session) k) (performed (task_of k.code) p c.in-WhileOpen.session k host (length buffer))) (sym c.if-has-surplus-2.ensures) in
+    let is = ap (λ z. served z p k host (length buffer)) w ∙ ap (λ t. cond t (refused ParameterNotSupported p (Open c.in-WhileOpen.session) k) (performed (task_of k.code) p c.in-WhileOpen.session k host (length buffer))) (sym c.if-has_surplus-2.ensures) in
     record {
-      performed = subst (λ a. Performed a k c.perform-open.result buffer c.perform-open.new.buffer (state_of g.W.ReadStore g.W.WriteStore g.R.ReadStore c.perform-open.new.self))
-          (sym is) c.perform-open.ensures.performed;
-      lender = c.perform-open.ensures.lender;
+      performed = subst (λ a. Performed a k c.perform_open.result buffer c.perform_open.new.buffer (state_of g.W.ReadStore g.W.WriteStore g.R.ReadStore c.perform_open.new.self))
+          (sym is) c.perform_open.ensures.performed;
+      lender = c.perform_open.ensures.lender;
     }

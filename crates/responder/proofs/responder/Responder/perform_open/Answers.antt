@@ -17,9 +17,9 @@ returns-in-4097 g c =
     let k = c.args.command.now in
     let s = c.args.session in
     record {
-      performed = subst (λ t. Performed (performed t p s k c.args.host.now (length c.args.buffer.now)) k c.get-device-info.result c.args.buffer.now c.get-device-info.new.buffer (state_of g.W.ReadStore g.W.WriteStore g.R.ReadStore c.args.self.now))
+      performed = subst (λ t. Performed (performed t p s k c.args.host.now (length c.args.buffer.now)) k c.get_device_info.result c.args.buffer.now c.get_device_info.new.buffer (state_of g.W.ReadStore g.W.WriteStore g.R.ReadStore c.args.self.now))
           (sym (task_at k.code 0x1001 c.in-4097.is))
-          (looked_performed p (Open s) k device_shown c.get-device-info.result c.args.buffer.now c.get-device-info.new.buffer _ c.get-device-info.ensures (state_same p refl refl c.requires));
+          (looked_performed p (Open s) k device_shown c.get_device_info.result c.args.buffer.now c.get_device_info.new.buffer _ c.get_device_info.ensures (state_same p refl refl c.requires));
       lender = refl;
     }
 
@@ -29,9 +29,9 @@ returns-in-4100 g c =
     let k = c.args.command.now in
     let s = c.args.session in
     record {
-      performed = subst (λ t. Performed (performed t p s k c.args.host.now (length c.args.buffer.now)) k c.get-storage-ids.result c.args.buffer.now c.get-storage-ids.new.buffer (state_of g.W.ReadStore g.W.WriteStore g.R.ReadStore c.args.self.now))
+      performed = subst (λ t. Performed (performed t p s k c.args.host.now (length c.args.buffer.now)) k c.get_storage_ids.result c.args.buffer.now c.get_storage_ids.new.buffer (state_of g.W.ReadStore g.W.WriteStore g.R.ReadStore c.args.self.now))
           (sym (task_at k.code 0x1004 c.in-4100.is))
-          (looked_performed p (Open s) k storages_shown c.get-storage-ids.result c.args.buffer.now c.get-storage-ids.new.buffer _ c.get-storage-ids.ensures (state_same p refl refl c.requires));
+          (looked_performed p (Open s) k storages_shown c.get_storage_ids.result c.args.buffer.now c.get_storage_ids.new.buffer _ c.get_storage_ids.ensures (state_same p refl refl c.requires));
       lender = refl;
     }
 
@@ -41,9 +41,9 @@ returns-in-4101 g c =
     let k = c.args.command.now in
     let s = c.args.session in
     record {
-      performed = subst (λ t. Performed (performed t p s k c.args.host.now (length c.args.buffer.now)) k c.get-storage-info.result c.args.buffer.now c.get-storage-info.new.buffer (state_of g.W.ReadStore g.W.WriteStore g.R.ReadStore c.args.self.now))
+      performed = subst (λ t. Performed (performed t p s k c.args.host.now (length c.args.buffer.now)) k c.get_storage_info.result c.args.buffer.now c.get_storage_info.new.buffer (state_of g.W.ReadStore g.W.WriteStore g.R.ReadStore c.args.self.now))
           (sym (task_at k.code 0x1005 c.in-4101.is))
-          (looked_performed p (Open s) k _ c.get-storage-info.result c.args.buffer.now c.get-storage-info.new.buffer _ c.get-storage-info.ensures (state_same p refl refl c.requires));
+          (looked_performed p (Open s) k _ c.get_storage_info.result c.args.buffer.now c.get_storage_info.new.buffer _ c.get_storage_info.ensures (state_same p refl refl c.requires));
       lender = refl;
     }
 
@@ -53,9 +53,9 @@ returns-in-4103 g c =
     let k = c.args.command.now in
     let s = c.args.session in
     record {
-      performed = subst (λ t. Performed (performed t p s k c.args.host.now (length c.args.buffer.now)) k c.get-object-handles.result c.args.buffer.now c.get-object-handles.new.buffer (state_of g.W.ReadStore g.W.WriteStore g.R.ReadStore c.args.self.now))
+      performed = subst (λ t. Performed (performed t p s k c.args.host.now (length c.args.buffer.now)) k c.get_object_handles.result c.args.buffer.now c.get_object_handles.new.buffer (state_of g.W.ReadStore g.W.WriteStore g.R.ReadStore c.args.self.now))
           (sym (task_at k.code 0x1007 c.in-4103.is))
-          (looked_performed p (Open s) k _ c.get-object-handles.result c.args.buffer.now c.get-object-handles.new.buffer _ c.get-object-handles.ensures (state_same p refl refl c.requires));
+          (looked_performed p (Open s) k _ c.get_object_handles.result c.args.buffer.now c.get_object_handles.new.buffer _ c.get_object_handles.ensures (state_same p refl refl c.requires));
       lender = refl;
     }
 
@@ -65,9 +65,9 @@ returns-in-4104 g c =
     let k = c.args.command.now in
     let s = c.args.session in
     record {
-      performed = subst (λ t. Performed (performed t p s k c.args.host.now (length c.args.buffer.now)) k c.get-object-info.result c.args.buffer.now c.get-object-info.new.buffer (state_of g.W.ReadStore g.W.WriteStore g.R.ReadStore c.args.self.now))
+      performed = subst (λ t. Performed (performed t p s k c.args.host.now (length c.args.buffer.now)) k c.get_object_info.result c.args.buffer.now c.get_object_info.new.buffer (state_of g.W.ReadStore g.W.WriteStore g.R.ReadStore c.args.self.now))
           (sym (task_at k.code 0x1008 c.in-4104.is))
-          (looked_performed p (Open s) k _ c.get-object-info.result c.args.buffer.now c.get-object-info.new.buffer _ c.get-object-info.ensures (state_same p refl refl c.requires));
+          (looked_performed p (Open s) k _ c.get_object_info.result c.args.buffer.now c.get_object_info.new.buffer _ c.get_object_info.ensures (state_same p refl refl c.requires));
       lender = refl;
     }
 
@@ -77,9 +77,9 @@ returns-in-4105 g c =
     let k = c.args.command.now in
     let s = c.args.session in
     record {
-      performed = subst (λ t. Performed (performed t p s k c.args.host.now (length c.args.buffer.now)) k c.get-object.result c.args.buffer.now c.get-object.new.buffer (state_of g.W.ReadStore g.W.WriteStore g.R.ReadStore c.args.self.now))
+      performed = subst (λ t. Performed (performed t p s k c.args.host.now (length c.args.buffer.now)) k c.get_object.result c.args.buffer.now c.get_object.new.buffer (state_of g.W.ReadStore g.W.WriteStore g.R.ReadStore c.args.self.now))
           (sym (task_at k.code 0x1009 c.in-4105.is))
-          (looked_performed p (Open s) k _ c.get-object.result c.args.buffer.now c.get-object.new.buffer _ c.get-object.ensures (state_same p refl refl c.requires));
+          (looked_performed p (Open s) k _ c.get_object.result c.args.buffer.now c.get_object.new.buffer _ c.get_object.ensures (state_same p refl refl c.requires));
       lender = refl;
     }
 
@@ -89,9 +89,9 @@ returns-in-4123 g c =
     let k = c.args.command.now in
     let s = c.args.session in
     record {
-      performed = subst (λ t. Performed (performed t p s k c.args.host.now (length c.args.buffer.now)) k c.get-partial-object.result c.args.buffer.now c.get-partial-object.new.buffer (state_of g.W.ReadStore g.W.WriteStore g.R.ReadStore c.args.self.now))
+      performed = subst (λ t. Performed (performed t p s k c.args.host.now (length c.args.buffer.now)) k c.get_partial_object.result c.args.buffer.now c.get_partial_object.new.buffer (state_of g.W.ReadStore g.W.WriteStore g.R.ReadStore c.args.self.now))
           (sym (task_at k.code 0x101B c.in-4123.is))
-          (looked_performed p (Open s) k _ c.get-partial-object.result c.args.buffer.now c.get-partial-object.new.buffer _ c.get-partial-object.ensures (state_same p refl refl c.requires));
+          (looked_performed p (Open s) k _ c.get_partial_object.result c.args.buffer.now c.get_partial_object.new.buffer _ c.get_partial_object.ensures (state_same p refl refl c.requires));
       lender = refl;
     }
 
@@ -101,10 +101,10 @@ returns-in-4099 g c =
     let k = c.args.command.now in
     let s = c.args.session in
     record {
-      performed = subst (λ t. Performed (performed t p s k c.args.host.now (length c.args.buffer.now)) k c.silent.result c.args.buffer.now c.args.buffer.now (state_of g.W.ReadStore g.W.WriteStore g.R.ReadStore c.close-session.new.self))
+      performed = subst (λ t. Performed (performed t p s k c.args.host.now (length c.args.buffer.now)) k c.silent.result c.args.buffer.now c.args.buffer.now (state_of g.W.ReadStore g.W.WriteStore g.R.ReadStore c.close_session.new.self))
           (sym (task_at k.code 0x1003 c.in-4099.is))
-          (acted_performed p k _ c.close-session.result c.silent.result c.args.buffer.now _ c.close-session.ensures.acted c.silent.ensures);
-      lender = c.close-session.ensures.lender;
+          (acted_performed p k _ c.close_session.result c.silent.result c.args.buffer.now _ c.close_session.ensures.acted c.silent.ensures);
+      lender = c.close_session.ensures.lender;
     }
 
 pub returns-in-4107 : goal.returns-in-4107
@@ -113,10 +113,10 @@ returns-in-4107 g c =
     let k = c.args.command.now in
     let s = c.args.session in
     record {
-      performed = subst (λ t. Performed (performed t p s k c.args.host.now (length c.args.buffer.now)) k c.silent-in-4107.result c.args.buffer.now c.args.buffer.now (state_of g.W.ReadStore g.W.WriteStore g.R.ReadStore c.delete-object.new.self))
+      performed = subst (λ t. Performed (performed t p s k c.args.host.now (length c.args.buffer.now)) k c.silent-in-4107.result c.args.buffer.now c.args.buffer.now (state_of g.W.ReadStore g.W.WriteStore g.R.ReadStore c.delete_object.new.self))
           (sym (task_at k.code 0x100B c.in-4107.is))
-          (acted_performed p k _ c.delete-object.result c.silent-in-4107.result c.args.buffer.now _ c.delete-object.ensures.acted c.silent-in-4107.ensures);
-      lender = c.delete-object.ensures.lender;
+          (acted_performed p k _ c.delete_object.result c.silent-in-4107.result c.args.buffer.now _ c.delete_object.ensures.acted c.silent-in-4107.ensures);
+      lender = c.delete_object.ensures.lender;
     }
 
 pub returns-in-4108 : goal.returns-in-4108
@@ -125,10 +125,10 @@ returns-in-4108 g c =
     let k = c.args.command.now in
     let s = c.args.session in
     record {
-      performed = subst (λ t. Performed (performed t p s k c.args.host.now (length c.args.buffer.now)) k c.silent-in-4108.result c.args.buffer.now c.args.buffer.now (state_of g.W.ReadStore g.W.WriteStore g.R.ReadStore c.send-object-info.new.self))
+      performed = subst (λ t. Performed (performed t p s k c.args.host.now (length c.args.buffer.now)) k c.silent-in-4108.result c.args.buffer.now c.args.buffer.now (state_of g.W.ReadStore g.W.WriteStore g.R.ReadStore c.send_object_info.new.self))
           (sym (task_at k.code 0x100C c.in-4108.is))
-          (acted_performed p k _ c.send-object-info.result c.silent-in-4108.result c.args.buffer.now _ c.send-object-info.ensures.acted c.silent-in-4108.ensures);
-      lender = c.send-object-info.ensures.lender;
+          (acted_performed p k _ c.send_object_info.result c.silent-in-4108.result c.args.buffer.now _ c.send_object_info.ensures.acted c.silent-in-4108.ensures);
+      lender = c.send_object_info.ensures.lender;
     }
 
 pub returns-in-4109 : goal.returns-in-4109
@@ -137,14 +137,14 @@ returns-in-4109 g c =
     let k = c.args.command.now in
     let s = c.args.session in
     record {
-      performed = subst (λ t. Performed (performed t p s k c.args.host.now (length c.args.buffer.now)) k c.silent-in-4109.result c.args.buffer.now c.args.buffer.now (state_of g.W.ReadStore g.W.WriteStore g.R.ReadStore c.send-object.new.self))
+      performed = subst (λ t. Performed (performed t p s k c.args.host.now (length c.args.buffer.now)) k c.silent-in-4109.result c.args.buffer.now c.args.buffer.now (state_of g.W.ReadStore g.W.WriteStore g.R.ReadStore c.send_object.new.self))
           (sym (task_at k.code 0x100D c.in-4109.is))
-          (acted_performed p k _ c.send-object.result c.silent-in-4109.result c.args.buffer.now _ c.send-object.ensures.acted c.silent-in-4109.ensures);
-      lender = c.send-object.ensures.lender;
+          (acted_performed p k _ c.send_object.result c.silent-in-4109.result c.args.buffer.now _ c.send_object.ensures.acted c.silent-in-4109.ensures);
+      lender = c.send_object.ensures.lender;
     }
 
-pub returns-in-default : goal.returns-in-default
-returns-in-default g c =
+pub returns-in_default : goal.returns-in_default
+returns-in_default g c =
     let p = storages_of g.W.ReadStore g.W.WriteStore g.R.ReadStore c.args.self.now.first.now c.args.self.now.second.now in
     let k = c.args.command.now in
     let s = c.args.session in

@@ -13,9 +13,9 @@ unfolding object_sent
 returns-in-Announced g c =
     let p = storages_of g.W.ReadStore g.W.WriteStore g.R.ReadStore c.args.self.now.first.now c.args.self.now.second.now in
     record {
-      acted = subst (λ t. Acted p (sent_for p c.args.session c.args.command.now c.args.host.now (announcement_in t)) c.store-object.result (state_of g.W.ReadStore g.W.WriteStore g.R.ReadStore c.store-object.new.self))
-          (sym c.in-Announced.is) c.store-object.ensures.acted;
-      lender = c.store-object.ensures.lender;
+      acted = subst (λ t. Acted p (sent_for p c.args.session c.args.command.now c.args.host.now (announcement_in t)) c.store_object.result (state_of g.W.ReadStore g.W.WriteStore g.R.ReadStore c.store_object.new.self))
+          (sym c.in-Announced.is) c.store_object.ensures.acted;
+      lender = c.store_object.ensures.lender;
     }
 
 pub returns-in-Idle : goal.returns-in-Idle

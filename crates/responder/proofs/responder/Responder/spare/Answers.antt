@@ -14,7 +14,7 @@ returns g c =
     let p = storages_of g.W.ReadStore g.W.WriteStore g.R.ReadStore c.args.self.now.first.now c.args.self.now.second.now in
     let k = c.args.command.now in
     let v = gate c.args.self.now.session.session k in
-    let fault = c.cancel-fault-fault.ensures ∙ ap cancel_fault c.admit.ensures.result in
+    let fault = c.cancel_fault-fault.ensures ∙ ap cancel_fault c.admit.ensures.result in
     let t = ap (λ f. told_of k.transaction (Err f)) fault ∙ spared_told v p k in
     record {
       replied = record {

@@ -9,13 +9,13 @@ whole : (ps : List ℕ) → length ps ≤ 5 → length (ps ++ drop (length ps) (
 whole ps h =
     length-append ps (drop (length ps) (replicate 5 0)) ∙ (let l = length-drop {A = ℕ} (length ps) (replicate 5 0) in omega arith)
 
-pub invariant-of-result : goal.invariant-of-result
-invariant-of-result c =
+pub invariant_of-result : goal.invariant_of-result
+invariant_of-result c =
     let ps = c.args.list.now in
-    (leb-true _ 5 (sym c.if-not-is-few.ensures), (simp (sub-zero, c.copy-from-slice.ensures.after) (whole ps (leb-true _ 5 (sym c.if-not-is-few.ensures))), tt))
+    (leb-true _ 5 (sym c.if-not-is_few.ensures), (simp (sub-zero, c.copy_from_slice.ensures.after) (whole ps (leb-true _ 5 (sym c.if-not-is_few.ensures))), tt))
 
 pub returns : goal.returns
 returns c =
     let ps = c.args.list.now in
-    simp (sub-zero, c.copy-from-slice.ensures.after)
-    (ap Some (take_at ps (drop (length ps) (replicate 5 0)) (length ps) refl) ∙ sym (cond-true _ _ _ (le-leb (length ps) 5 (leb-true _ 5 (sym c.if-not-is-few.ensures)))))
+    simp (sub-zero, c.copy_from_slice.ensures.after)
+    (ap Some (take_at ps (drop (length ps) (replicate 5 0)) (length ps) refl) ∙ sym (cond-true _ _ _ (le-leb (length ps) 5 (leb-true _ 5 (sym c.if-not-is_few.ensures)))))
