@@ -26,8 +26,10 @@ ROOTS = {"c", "l", "w", "g", "e", "u", "v", "goal"}
 
 
 def files(root):
-    for folder, dirs, names in os.walk(os.path.join(root, "crates")):
-        dirs[:] = sorted(d for d in dirs if d not in ("out", "must-fail", "data"))
+    top = os.path.join(root, "crates")
+    for folder, dirs, names in os.walk(top):
+        crate = os.path.dirname(folder) == top
+        dirs[:] = sorted(d for d in dirs if not (crate and d in ("out", "must-fail", "data")))
         for name in sorted(names):
             if name.endswith((".rt", ".antt")):
                 yield os.path.join(folder, name)

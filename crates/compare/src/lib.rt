@@ -1,5 +1,6 @@
 //! Whether two stores, or two pairs of storages, hold the same.
 #![tactic(auto)]
+
 mod bytes;
 pub mod contents;
 mod files;

@@ -1,5 +1,6 @@
 //! Prints captured containers for a person at the bench.
 #![tactic(auto)]
+
 use std::{env, fs, io};
 
 mod container;

@@ -1,5 +1,6 @@
 //! A writing store over the heap. It takes all its memory when it is made, so that it never wants for any later.
 #![tactic(auto)]
+
 mod limits;
 mod memory;
 mod row;

@@ -1,4 +1,5 @@
 //! A read-only store in an image of tagged fields.
 #![tactic(auto)]
+
 pub mod samples;
 pub mod store;

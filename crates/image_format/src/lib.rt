@@ -1,5 +1,6 @@
 //! The form of an image: files as tagged fields, one behind the other.
 #![tactic(auto)]
+
 pub mod fault;
 mod field;
 pub mod layout;

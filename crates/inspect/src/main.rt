@@ -1,5 +1,6 @@
 //! Prints what images of a read-only storage hold, or where they are wrong.
 #![tactic(auto)]
+
 use crate::report::report_of;
 use crate::request::{Argument, Outcome, Request, USAGE, argument_of};
 use std::fs::File;

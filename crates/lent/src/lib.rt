@@ -1,3 +1,4 @@
 //! Lent memory: what is in use of it, and the questions that it answers for the stores that lie in it.
 #![tactic(auto)]
+
 pub mod memory;

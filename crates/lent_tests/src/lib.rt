@@ -1,4 +1,5 @@
 //! Tests of the stores in lent memory.
 #![tactic(auto)]
+
 #[cfg(test)]
 mod tests;

@@ -1,9 +1,9 @@
 -- How the makers of names come to their answers.
-use Rattle.std.proofs.Common.{◌≡◌, ℕ, ◌+◌, ◌-◌, ◌<◌, ◌≤◌, Bool, true, false, ◌&&◌, eqb, leb, List, [], ◌∷◌, ◌++◌, length, get_or, take, drop, set, replicate, is_some, IfSome, Some, None, Option, sym, refl, ap, ◌∙◌, subst, arith}
+use Rattle.std.proofs.Common.{◌≡◌, ℕ, ◌+◌, ◌-◌, ◌<◌, ◌≤◌, Bool, true, false, ◌&&◌, leb, List, [], ◌∷◌, ◌++◌, length, get_or, take, drop, set, replicate, is_some, IfSome, Some, None, Option, sym, refl, ap, ◌∙◌, subst, arith}
 use mathlib.Core.Bool.{and_assoc}
 use Rattle.object.specs.declared.name.Name.{Name}
 use Rattle.object.specs.Legal.{legal_unit, all, legal_name, stored_name}
-use Rattle.object.specs.Names.{units_of, cells, named}
+use Rattle.object.specs.Names.{units_of, named}
 use Rattle.object.proofs.Stored.{Made, legal, illegal, made, same_name, units_legal, stored_from}
 use Rattle.std.proofs.lemmas.List.{take-append-drop, drop_more, take_more, take_more_set, drop-set-lt, drop-drop, drop-replicate, length-set, take_all}
 use Rattle.std.proofs.lemmas.Bool.{and_from, and_left, and_right, le-leb, lt-leb, both_ways}

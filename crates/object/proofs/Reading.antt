@@ -1,5 +1,5 @@
 -- Reading the units of a name from bytes.
-use Rattle.std.proofs.Common.{◌≡◌, ℕ, ◌+◌, ◌-◌, ◌*◌, ◌/◌, ◌%◌, ◌<◌, ◌≤◌, true, ltb, leb, List, [], ◌∷◌, ◌++◌, length, take, drop, set, replicate, Some, None, Option, sym, refl, ap, ◌∙◌, subst, arith}
+use Rattle.std.proofs.Common.{◌≡◌, ℕ, ◌+◌, ◌*◌, ◌/◌, ◌%◌, ◌<◌, ◌≤◌, true, ltb, leb, List, [], ◌∷◌, ◌++◌, length, take, set, replicate, Some, None, Option, sym, refl, ap, ◌∙◌, arith}
 use Rattle.object.specs.declared.name.Name.{Name}
 use Rattle.std.proofs.lemmas.List.{append_assoc, length-append, length-set, length-take-le, take_more_set}
 use Rattle.std.specs.List.{AllByRecursion as All}

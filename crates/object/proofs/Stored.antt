@@ -1,7 +1,7 @@
 -- What the cells of a name hold, and that a name is its units.
-use Rattle.std.proofs.Common.{◌≡◌, ℕ, zero, suc, ◌+◌, ◌-◌, ◌<◌, ◌≤◌, Bool, true, false, ◌&&◌, eqb, leb, ◌⊎◌, List, [], ◌∷◌, ◌++◌, length, take, drop, replicate, is_some, Some, None, Option, sym, refl, ap, ◌∙◌, subst, ⊎_elim, arith, length-drop}
-use Rattle.std.proofs.lemmas.List.{take-append-drop, take_at, drop_at, length-take-le, length-append, length-replicate, append-nil}
-use Rattle.std.proofs.lemmas.Bool.{leb-true, eqb-true, and_parts, and_from, and_left, and_right, eq-eqb, le-leb, lt-leb, both_ways, cases_lt, cases_Bool}
+use Rattle.std.proofs.Common.{◌≡◌, ℕ, zero, suc, ◌-◌, ◌≤◌, Bool, true, false, ◌&&◌, eqb, leb, List, [], ◌∷◌, ◌++◌, length, take, drop, replicate, Some, None, Option, sym, refl, ap, ◌∙◌, subst, ⊎_elim, arith, length-drop}
+use Rattle.std.proofs.lemmas.List.{take-append-drop, take_at, drop_at, length-take-le, length-append, length-replicate}
+use Rattle.std.proofs.lemmas.Bool.{leb-true, eqb-true, and_parts, and_from, eq-eqb, le-leb, both_ways, cases_Bool}
 use Rattle.object.specs.declared.name.Name.{Name}
 use Rattle.object.specs.contracts.name.Name.{the_type}
 use Rattle.object.specs.Legal.{legal_unit, all, legal_name, stored_name}

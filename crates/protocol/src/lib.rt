@@ -1,5 +1,6 @@
 //! The session machine as definitions (`specs/`), the types that it shares with the code, and its laws.
 #![tactic(auto)]
+
 pub mod fault;
 pub mod laws;
 pub mod samples;

@@ -1,4 +1,5 @@
 //! Tests over stores of all makes.
 #![tactic(auto)]
+
 #[cfg(test)]
 mod tests;

@@ -1,5 +1,6 @@
 //! What crosses the cable: containers, strings and arrays.
 #![tactic(auto)]
+
 pub mod command;
 pub mod container;
 pub mod data;

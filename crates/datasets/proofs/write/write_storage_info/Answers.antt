@@ -8,7 +8,7 @@ use Rattle.datasets.proofs.write.write_storage_info.Goals as goal
 
 pub returns-in_err-next : goal.returns-in_err-next
 returns-in_err-next c =
-    let p = err_from_is_err_and c.from-residual.result c.from-residual.ensures.1 in
+    let p = err_from_is_err_and c.from_residual.result c.from_residual.ensures.1 in
     rw (p.1, p.2) (record { value = data_refused c.args.code c.args.transaction (46) (storage_info c.args.info.now) c.args.out.now c.write_data_head.new.out (sym (length_storage_info c.args.info.now)) c.in_err-next.field-0.0 c.in_err-next.ensures.value; back = tt; law = storage_info_back })
 
 pub put_storage_info-requires : goal.put_storage_info-requires

@@ -10,13 +10,13 @@ returns c =
     let run : List ℕ = c.args.run.now in
     let at : ℕ = c.args.at in
     let grown = c.extend_from_slice.new.self in
-    let lent : List ℕ = c.deref-mut.result.now in
+    let lent : List ℕ = c.deref_mut.result.now in
     let turned : List ℕ = c.rotate_right.new.self in
     let extended = c.extend_from_slice.ensures in
     let within : at ≤ length old.items = omega (arith, c.requires.within, old.ok.0) in
     let all : grown.items ≡ old.items ++ run =
     extended_is old.items run grown.items (is_ok c.extend_from_slice.result) extended.items (extended.succeeds c.requires.fits) in
-    let is = put_in_is old.items run lent turned at within (c.deref-mut.ensures.value ∙ all) c.rotate_right.ensures.after in
+    let is = put_in_is old.items run lent turned at within (c.deref_mut.ensures.value ∙ all) c.rotate_right.ensures.after in
     let long : length (put_mid at (length lent - at) lent turned) ≡ grown.len =
     ap length is ∙ length_put_in old.items run at within ∙ omega (arith, grown.ok.0, ap length all, length-append old.items run) in
     record { items = with_items_is grown (put_mid at (length lent - at) lent turned) long ∙ is; capacity = extended.capacity }

@@ -14,7 +14,7 @@ returns-then-is_empty c =
 pub returns-in_err-number : goal.returns-in_err-number
 returns-in_err-number c =
     let l = c.loop-count in
-    let p = err_from_is_err_and c.from-residual.result c.from-residual.ensures.1 in
+    let p = err_from_is_err_and c.from_residual.result c.from_residual.ensures.1 in
     p.1 ∙ ap Err p.2
     ∙ sofar_wrong c.args.image.now l.rest.now l.count l.last l.total l.invariant _ (omega arith) (sym c.if-is_empty.ensures) c.in_err-number.ensures.value
 

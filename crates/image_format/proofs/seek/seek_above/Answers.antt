@@ -7,7 +7,7 @@ use Rattle.image_format.proofs.seek.seek_above.Goals as goal
 pub returns-in_err-record : goal.returns-in_err-record
 returns-in_err-record c =
     let left = c.args.count - (c.loop-passed.-passed + 1) in
-    ap (option_map plain_of) c.from-residual.ensures
+    ap (option_map plain_of) c.from_residual.ensures
     ∙ sym (sought_step (c.args.count - c.loop-passed.-passed) left c.loop-passed.rest.now c.args.number _ (omega arith) c.in_err-record.ensures)
     ∙ c.loop-passed.invariant
 

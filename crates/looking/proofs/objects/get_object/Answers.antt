@@ -14,7 +14,7 @@ pub returns-in_err-file : goal.returns-in_err-file
 returns-in_err-file g c =
     let p = storages_of g.W.ReadStore g.W.WriteStore g.R.ReadStore c.args.first.now c.args.second.now in
     let k = c.args.command.now in
-    let q = err_from_is_err_and c.from-residual.result c.from-residual.ensures.1 in
+    let q = err_from_is_err_and c.from_residual.result c.from_residual.ensures.1 in
     look_refused k _ _ _ _ (object_refused p (parameter 1 k) _ c.in_err-file.ensures) (ap result_told (q.1 ∙ ap Err q.2))
 
 pub write_part-written-requires : goal.write_part-written-requires

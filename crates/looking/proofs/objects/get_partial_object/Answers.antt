@@ -16,7 +16,7 @@ pub returns-in_err-file : goal.returns-in_err-file
 returns-in_err-file g c =
     let p = storages_of g.W.ReadStore g.W.WriteStore g.R.ReadStore c.args.first.now c.args.second.now in
     let k = c.args.command.now in
-    let q = err_from_is_err_and c.from-residual.result c.from-residual.ensures.1 in
+    let q = err_from_is_err_and c.from_residual.result c.from_residual.ensures.1 in
     look_refused k _ _ _ _ (part_refused p (parameter 1 k) (parameter 2 k) (parameter 3 k) _ c.in_err-file.ensures) (ap result_told (q.1 ∙ ap Err q.2))
 
 pub returns-then-not-is_within : goal.returns-then-not-is_within

@@ -12,7 +12,7 @@ pub returns-in_err-start : goal.returns-in_err-start
 returns-in_err-start g c =
     let p = storages_of g.W.ReadStore g.W.WriteStore g.R.ReadStore c.args.first.now c.args.second.now in
     let k = c.args.command.now in
-    let q = err_from_is_err_and c.from-residual.result c.from-residual.ensures.1 in
+    let q = err_from_is_err_and c.from_residual.result c.from_residual.ensures.1 in
     rw (q.1, q.2) (data_refused k.code k.transaction c.args.len (part c.args.offset c.args.len (bytes_of (object_at p c.args.handle))) c.args.buffer.now c.write_data_head.new.out (sym c.requires) c.in_err-start.field-0.0 c.in_err-start.ensures.value)
 
 pub overflow_add-end : goal.overflow_add-end

@@ -12,7 +12,7 @@ pub returns-in_err-info : goal.returns-in_err-info
 returns-in_err-info g c =
     let p = storages_of g.W.ReadStore g.W.WriteStore g.R.ReadStore c.args.first.now c.args.second.now in
     let k = c.args.command.now in
-    let q = err_from_is_err_and c.from-residual.result c.from-residual.ensures.1 in
+    let q = err_from_is_err_and c.from_residual.result c.from_residual.ensures.1 in
     look_refused k _ _ _ _ (storage_is p (parameter 1 k) ∙ ap (shows_with storage_info) (sym c.in_err-info.ensures)) (ap result_told (q.1 ∙ ap Err q.2))
 
 pub returns : goal.returns

@@ -11,7 +11,7 @@ loop-left-init c = sofar_none c.args.bytes.now c.args.count
 
 pub returns-in_err-unit : goal.returns-in_err-unit
 returns-in_err-unit c =
-    rw c.from-residual.ensures
+    rw c.from_residual.ensures
     (ap (option_map read_parts) (sofar_short c.args.bytes.now c.args.count c.loop-left.rest.now c.loop-left.left c.loop-left.invariant c.in_err-unit.ensures))
 
 pub returns-then-is_closing : goal.returns-then-is_closing
@@ -24,7 +24,7 @@ loop-left-preserved c =
 
 pub returns-in_err-end : goal.returns-in_err-end
 returns-in_err-end c =
-    rw c.from-residual-in_err-end.ensures
+    rw c.from_residual-in_err-end.ensures
     (ap (option_map read_parts) (sofar_short c.args.bytes.now c.args.count c.loop-left.rest.now c.loop-left.left c.loop-left.invariant c.in_err-end.ensures))
 
 pub returns-then-not-is_closing : goal.returns-then-not-is_closing

@@ -11,7 +11,7 @@ returns-in_err-check_addition c =
     let f : File = file_of c.args.file.now c.args.bytes.now in
     let before : Contents = held c.args.self.now in
     let fault = c.in_err-check_addition.field-0.0 in
-    let p = err_from_is_err_and c.from-residual.result c.from-residual.ensures.1 in
+    let p = err_from_is_err_and c.from_residual.result c.from_residual.ensures.1 in
     let e = addition_refused c.args.number f before fault (sym c.check_addition.ensures ∙ c.in_err-check_addition.was) in
     record { result = p.1 ∙ ap (λ x. Err x) p.2 ∙ sym (ap result_of e); contents = sym (ap (contents_after before) e) }
 

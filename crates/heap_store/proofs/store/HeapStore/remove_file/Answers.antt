@@ -11,7 +11,7 @@ pub returns-in_err-found : goal.returns-in_err-found
 returns-in_err-found c =
     let s = c.args.self.now in
     let fault = c.in_err-found.field-0.0 in
-    let p = err_from_is_err_and c.from-residual.result c.from-residual.ensures.1 in
+    let p = err_from_is_err_and c.from_residual.result c.from_residual.ensures.1 in
     let e = removal_refused c.args.number s fault (sym c.find_removable.ensures ∙ c.in_err-found.was) in
     record { result = p.1 ∙ ap (λ x. Err x) p.2 ∙ sym (ap result_of e); contents = sym (ap (contents_after (held s)) e) }
 

@@ -9,7 +9,7 @@ use Rattle.image.proofs.store.ImageStore.info.Goals as goal
 pub returns-in_err-record : goal.returns-in_err-record
 returns-in_err-record c =
     let s = c.args.self.now in
-    c.from-residual.ensures ∙ sym (ap (option_map info_of) (told_none s.image.now s.count s.total c.args.number s.right c.in_err-record.ensures))
+    c.from_residual.ensures ∙ sym (ap (option_map info_of) (told_none s.image.now s.count s.total c.args.number s.right c.in_err-record.ensures))
 
 pub returns-in_err-name : goal.returns-in_err-name
 returns-in_err-name c =

@@ -5,7 +5,7 @@ use Rattle.image.proofs.store.ImageStore.number_above.Goals as goal
 pub returns-in_err-record : goal.returns-in_err-record
 returns-in_err-record c =
     let s = c.args.self.now in
-    c.from-residual.ensures ∙ ap number_in c.in_err-record.ensures ∙ asked_next s.image.now s.count s.total s.right c.args.number
+    c.from_residual.ensures ∙ ap number_in c.in_err-record.ensures ∙ asked_next s.image.now s.count s.total s.right c.args.number
 
 pub returns : goal.returns
 returns c =

@@ -1,4 +1,4 @@
-use Rattle.std.proofs.Common.{◌≡◌, length, sym, subst, ⊎_elim, arith}
+use Rattle.std.proofs.Common.{length, sym, subst, ⊎_elim, arith}
 use Rattle.object.proofs.Making.{Sofar, sofar_none, sofar_more, sofar_legal, sofar_stored, sofar_units, refused, accepted, not_short, not_long, spoilt}
 use Rattle.object.proofs.name.Name.from_units.Goals as goal
 
@@ -25,7 +25,7 @@ pub invariant_of-result : goal.invariant_of-result
 invariant_of-result c =
     let us = c.args.units.now in
     let s : Sofar us c.loop-i.cells (length us) = subst (Sofar us c.loop-i.cells) (omega arith) c.loop-i.invariant in
-    (sofar_stored us c.loop-i.cells s (omega arith) (omega arith), tt)
+    record { legal = sofar_stored us c.loop-i.cells s (omega arith) (omega arith) }
 
 pub returns : goal.returns
 returns c =

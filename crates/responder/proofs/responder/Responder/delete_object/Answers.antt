@@ -16,7 +16,7 @@ returns-in_err-deletable g c =
     let p = storages_of g.W.ReadStore g.W.WriteStore g.R.ReadStore c.args.self.now.first.now c.args.self.now.second.now in
     let s = c.args.session in
     let h = c.args.handle in
-    let q = err_from_is_err_and c.from-residual.result c.from-residual.ensures.1 in
+    let q = err_from_is_err_and c.from_residual.result c.from_residual.ensures.1 in
     record {
       acted = acted_refused p _ _ _ (Open s) _ (q.1 ∙ ap Err q.2)
           (ap (settled p.first (Open s)) (checks_refused (and_then (removed p.locked h p.first) of_store (λ d. accepts [] d (Open s))) (eqb c.args.format 0) (object_at p h) (ltb h second_base) _ c.in_err-deletable.ensures))
@@ -31,7 +31,7 @@ returns-in_err-remove g c =
     let s = c.args.session in
     let h = c.args.handle in
     let v = removed p.locked h p.first in
-    let q = err_from_is_err_and c.from-residual-in_err-remove.result c.from-residual-in_err-remove.ensures.1 in
+    let q = err_from_is_err_and c.from_residual-in_err-remove.result c.from_residual-in_err-remove.ensures.1 in
     let e = c.in_err-remove.ensures in
     record {
       acted = acted_refused p _ _ _ (Open s) _ (q.1 ∙ ap Err q.2)

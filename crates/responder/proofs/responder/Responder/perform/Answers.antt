@@ -19,12 +19,12 @@ returns-in_err-admitted g c =
     let host = c.args.host.now in
     let buffer = c.args.buffer.now in
     let v = gate c.args.self.now.session.session k in
-    let q = err_from_is_err_and c.from-residual.result c.from-residual.ensures.1 in
+    let q = err_from_is_err_and c.from_residual.result c.from_residual.ensures.1 in
     let e = c.in_err-admitted.ensures in
     record {
-      performed = subst (λ a. Performed a k c.from-residual.result buffer buffer (state_of g.W.ReadStore g.W.WriteStore g.R.ReadStore (record { first = c.args.self.now.first; second = c.args.self.now.second; session = c.admit.new.self })))
+      performed = subst (λ a. Performed a k c.from_residual.result buffer buffer (state_of g.W.ReadStore g.W.WriteStore g.R.ReadStore (record { first = c.args.self.now.first; second = c.args.self.now.second; session = c.admit.new.self })))
           (sym (gate_stops v _ p k host (length buffer) e.result))
-          (refused_performed p (session_at v) k _ c.from-residual.result buffer _ (q.1 ∙ ap Err q.2) (state_same p refl refl e.after));
+          (refused_performed p (session_at v) k _ c.from_residual.result buffer _ (q.1 ∙ ap Err q.2) (state_same p refl refl e.after));
       lender = refl;
     }
 

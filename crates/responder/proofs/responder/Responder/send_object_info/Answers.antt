@@ -14,7 +14,7 @@ returns-in_err-announcement g c =
     let p = storages_of g.W.ReadStore g.W.WriteStore g.R.ReadStore c.args.self.now.first.now c.args.self.now.second.now in
     let s = c.args.session in
     let k = c.args.command.now in
-    let q = err_from_is_err_and c.from-residual.result c.from-residual.ensures.1 in
+    let q = err_from_is_err_and c.from_residual.result c.from_residual.ensures.1 in
     record {
       acted = acted_refused p _ _ _ (Open s) _ (q.1 ∙ ap Err q.2)
           (info_is p s k c.args.host.now ∙ ap (λ r. settled p.first (Open s) (bind (announced p s (info_told s k)) r)) (sym c.in_err-announcement.ensures.value))
