@@ -1,6 +1,6 @@
 //! The responder over its two stores.
 mod acting;
-mod looking;
+mod looks;
 mod performing;
 
 ghost use Rattle.std.specs.Prelude.{◌≡◌, length};
