@@ -12,7 +12,10 @@ whole ps h =
 pub invariant_of-result : goal.invariant_of-result
 invariant_of-result c =
     let ps = c.args.list.now in
-    (leb-true _ 5 (sym c.if-not-is_few.ensures), (simp (sub-zero, c.copy_from_slice.ensures.after) (whole ps (leb-true _ 5 (sym c.if-not-is_few.ensures))), tt))
+    record {
+      few = leb-true _ 5 (sym c.if-not-is_few.ensures);
+      whole = simp (sub-zero, c.copy_from_slice.ensures.after) (whole ps (leb-true _ 5 (sym c.if-not-is_few.ensures)));
+    }
 
 pub returns : goal.returns
 returns c =
