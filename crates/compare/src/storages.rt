@@ -14,7 +14,7 @@ fn equal_pairs<W: WriteStore, R: ReadStore, V: WriteStore, Q: ReadStore>(
     first_b: &V,
     second_b: &Q,
 ) -> bool
-    ensures { Decides result (storages_of W.ReadStore W.WriteStore R.ReadStore first_a.now second_a.now ≡ storages_of V.ReadStore V.WriteStore Q.ReadStore first_b.now second_b.now) }
+    ensures { Decides result (storages_of W.ReadStore W.WriteStore.own R.ReadStore first_a.now second_a.now ≡ storages_of V.ReadStore V.WriteStore.own Q.ReadStore first_b.now second_b.now) }
 {
     first_a.is_locked() == first_b.is_locked()
         && same_contents(first_a, first_b)
@@ -28,8 +28,8 @@ fn alike_pairs<W: WriteStore, R: ReadStore, V: WriteStore, Q: ReadStore>(
     first_b: &V,
     second_b: &Q,
 ) -> bool
-    ensures equal { Decides result (storages_of W.ReadStore W.WriteStore R.ReadStore first_a.now second_a.now ≡ storages_of V.ReadStore V.WriteStore Q.ReadStore first_b.now second_b.now) }
-    ensures alike { Decides result (Alike (storages_of W.ReadStore W.WriteStore R.ReadStore first_a.now second_a.now) (storages_of V.ReadStore V.WriteStore Q.ReadStore first_b.now second_b.now)) }
+    ensures equal { Decides result (storages_of W.ReadStore W.WriteStore.own R.ReadStore first_a.now second_a.now ≡ storages_of V.ReadStore V.WriteStore.own Q.ReadStore first_b.now second_b.now) }
+    ensures alike { Decides result (Alike (storages_of W.ReadStore W.WriteStore.own R.ReadStore first_a.now second_a.now) (storages_of V.ReadStore V.WriteStore.own Q.ReadStore first_b.now second_b.now)) }
 {
     equal_pairs(first_a, second_a, first_b, second_b)
 }
@@ -41,8 +41,8 @@ pub fn same_storages<W: WriteStore, R: ReadStore, V: WriteStore, Q: ReadStore>(
     first_b: &V,
     second_b: &Q,
 ) -> bool
-    ensures equal { Decides result (storages_of W.ReadStore W.WriteStore R.ReadStore first_a.now second_a.now ≡ storages_of V.ReadStore V.WriteStore Q.ReadStore first_b.now second_b.now) }
-    ensures alike { Decides result (Alike (storages_of W.ReadStore W.WriteStore R.ReadStore first_a.now second_a.now) (storages_of V.ReadStore V.WriteStore Q.ReadStore first_b.now second_b.now)) }
+    ensures equal { Decides result (storages_of W.ReadStore W.WriteStore.own R.ReadStore first_a.now second_a.now ≡ storages_of V.ReadStore V.WriteStore.own Q.ReadStore first_b.now second_b.now) }
+    ensures alike { Decides result (Alike (storages_of W.ReadStore W.WriteStore.own R.ReadStore first_a.now second_a.now) (storages_of V.ReadStore V.WriteStore.own Q.ReadStore first_b.now second_b.now)) }
 {
     alike_pairs(first_a, second_a, first_b, second_b)
 }

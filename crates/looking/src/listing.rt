@@ -55,7 +55,7 @@ fn folder_listed<W: WriteStore, R: ReadStore>(
     storage: u32,
     folder: u32,
 ) -> Result<Listing, OperationFault>
-    ensures { result ≡ folder_listed (storages_of W.ReadStore W.WriteStore R.ReadStore first.now second.now) storage folder }
+    ensures { result ≡ folder_listed (storages_of W.ReadStore W.WriteStore.own R.ReadStore first.now second.now) storage folder }
 {
     let file = file(first, second, folder)?;
     if !(file.format.is_folder() && names(storage, storage_of(folder))) {
@@ -74,7 +74,7 @@ fn listing_of<W: WriteStore, R: ReadStore>(
     format: u32,
     folder: u32,
 ) -> Result<Listing, OperationFault>
-    ensures { result ≡ listing_told (storages_of W.ReadStore W.WriteStore R.ReadStore first.now second.now) storage format folder }
+    ensures { result ≡ listing_told (storages_of W.ReadStore W.WriteStore.own R.ReadStore first.now second.now) storage format folder }
 {
     if !names_any(storage) {
         return Err(OperationFault::InvalidStorage);
@@ -126,7 +126,7 @@ fn gather_listing<W: WriteStore, R: ReadStore>(
     handles: &mut [u32],
 ) -> usize
     requires { 2048 ≤ length handles.old }
-    ensures { Gathered 0 (handles_of (storages_of W.ReadStore W.WriteStore R.ReadStore first.now second.now) listing) handles.old handles.new result }
+    ensures { Gathered 0 (handles_of (storages_of W.ReadStore W.WriteStore.own R.ReadStore first.now second.now) listing) handles.old handles.new result }
 {
     let place = gather_named(first, 0, FIRST_STORAGE, listing, handles, 0);
     gather_named(second, SECOND_BASE, SECOND_STORAGE, listing, handles, place)
@@ -140,7 +140,7 @@ fn write_listing<W: WriteStore, R: ReadStore>(
     listing: Listing,
     buffer: &mut [u8],
 ) -> Result<usize, DatasetFault>
-    ensures { (result, buffer.new) ≡ placed (data_of command.now (array 4 (handles_of (storages_of W.ReadStore W.WriteStore R.ReadStore first.now second.now) listing))) buffer.old }
+    ensures { (result, buffer.new) ≡ placed (data_of command.now (array 4 (handles_of (storages_of W.ReadStore W.WriteStore.own R.ReadStore first.now second.now) listing))) buffer.old }
 {
     let mut handles = [0u32; 2048];
     let count = gather_listing(first, second, listing, &mut handles);
@@ -155,7 +155,7 @@ pub fn get_object_handles<W: WriteStore, R: ReadStore>(
     command: &Command,
     buffer: &mut [u8],
 ) -> Result<Done, OperationFault>
-    ensures { (result_told result, buffer.new) ≡ shown_in command.now (handles_shown (storages_of W.ReadStore W.WriteStore R.ReadStore first.now second.now) (parameter 1 command.now) (parameter 2 command.now) (parameter 3 command.now)) buffer.old }
+    ensures { (result_told result, buffer.new) ≡ shown_in command.now (handles_shown (storages_of W.ReadStore W.WriteStore.own R.ReadStore first.now second.now) (parameter 1 command.now) (parameter 2 command.now) (parameter 3 command.now)) buffer.old }
 {
     let listing = listing_of(
         first,

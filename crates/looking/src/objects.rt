@@ -28,7 +28,7 @@ use wire::response::Parameters;
 
 /// What is told of the file with a handle, if it is there.
 fn described<W: WriteStore, R: ReadStore>(first: &W, second: &R, handle: u32) -> Option<FileInfo>
-    ensures value { result ≡ option_map info_of (object_at (storages_of W.ReadStore W.WriteStore R.ReadStore first.now second.now) handle) }
+    ensures value { result ≡ option_map info_of (object_at (storages_of W.ReadStore W.WriteStore.own R.ReadStore first.now second.now) handle) }
     ensures bounds { IfSome result (λ f. (f.parent < 0x80000000) × (f.length ≤ 32768)) }
 {
     if handle < SECOND_BASE {
@@ -44,7 +44,7 @@ pub fn file<W: WriteStore, R: ReadStore>(
     second: &R,
     handle: u32,
 ) -> Result<FileInfo, OperationFault>
-    ensures value { result ≡ file_told (storages_of W.ReadStore W.WriteStore R.ReadStore first.now second.now) handle }
+    ensures value { result ≡ file_told (storages_of W.ReadStore W.WriteStore.own R.ReadStore first.now second.now) handle }
     ensures bounds { IfOk result (λ f. (f.parent < 0x80000000) × (f.length ≤ 32768)) }
 {
     match described(first, second, handle) {
@@ -87,7 +87,7 @@ pub fn get_object_info<W: WriteStore, R: ReadStore>(
     command: &Command,
     buffer: &mut [u8],
 ) -> Result<Done, OperationFault>
-    ensures { (result_told result, buffer.new) ≡ shown_in command.now (info_shown (storages_of W.ReadStore W.WriteStore R.ReadStore first.now second.now) (parameter 1 command.now)) buffer.old }
+    ensures { (result_told result, buffer.new) ≡ shown_in command.now (info_shown (storages_of W.ReadStore W.WriteStore.own R.ReadStore first.now second.now) (parameter 1 command.now)) buffer.old }
 {
     let handle = command.parameters[0];
     let file = file(first, second, handle)?;
@@ -120,7 +120,7 @@ fn copy<W: WriteStore, R: ReadStore>(
     offset: u32,
     into: &mut [u8],
 ) -> usize
-    ensures { Copied (drop offset (bytes_of (object_at (storages_of W.ReadStore W.WriteStore R.ReadStore first.now second.now) handle))) into.old into.new result }
+    ensures { Copied (drop offset (bytes_of (object_at (storages_of W.ReadStore W.WriteStore.own R.ReadStore first.now second.now) handle))) into.old into.new result }
 {
     if handle < SECOND_BASE {
         first.copy(handle, offset, into)
@@ -139,8 +139,8 @@ fn write_part<W: WriteStore, R: ReadStore>(
     len: usize,
     buffer: &mut [u8],
 ) -> Result<usize, DatasetFault>
-    requires { length (part offset len (bytes_of (object_at (storages_of W.ReadStore W.WriteStore R.ReadStore first.now second.now) handle))) ≡ len }
-    ensures { (result, buffer.new) ≡ placed (data_of command.now (part offset len (bytes_of (object_at (storages_of W.ReadStore W.WriteStore R.ReadStore first.now second.now) handle)))) buffer.old }
+    requires { length (part offset len (bytes_of (object_at (storages_of W.ReadStore W.WriteStore.own R.ReadStore first.now second.now) handle))) ≡ len }
+    ensures { (result, buffer.new) ≡ placed (data_of command.now (part offset len (bytes_of (object_at (storages_of W.ReadStore W.WriteStore.own R.ReadStore first.now second.now) handle)))) buffer.old }
 {
     let start = write_data_head(buffer, command.code, command.transaction, len)?;
     let end = start + len;
@@ -154,7 +154,7 @@ fn object<W: WriteStore, R: ReadStore>(
     second: &R,
     handle: u32,
 ) -> Result<FileInfo, OperationFault>
-    ensures { result ≡ body_told (storages_of W.ReadStore W.WriteStore R.ReadStore first.now second.now) handle }
+    ensures { result ≡ body_told (storages_of W.ReadStore W.WriteStore.own R.ReadStore first.now second.now) handle }
 {
     let file = file(first, second, handle)?;
     if file.format.is_folder() {
@@ -170,7 +170,7 @@ pub fn get_object<W: WriteStore, R: ReadStore>(
     command: &Command,
     buffer: &mut [u8],
 ) -> Result<Done, OperationFault>
-    ensures { (result_told result, buffer.new) ≡ shown_in command.now (object_shown (storages_of W.ReadStore W.WriteStore R.ReadStore first.now second.now) (parameter 1 command.now)) buffer.old }
+    ensures { (result_told result, buffer.new) ≡ shown_in command.now (object_shown (storages_of W.ReadStore W.WriteStore.own R.ReadStore first.now second.now) (parameter 1 command.now)) buffer.old }
 {
     let handle = command.parameters[0];
     let file = object(first, second, handle)?;
@@ -193,7 +193,7 @@ pub fn get_partial_object<W: WriteStore, R: ReadStore>(
     command: &Command,
     buffer: &mut [u8],
 ) -> Result<Done, OperationFault>
-    ensures { (result_told result, buffer.new) ≡ shown_in command.now (part_shown (storages_of W.ReadStore W.WriteStore R.ReadStore first.now second.now) (parameter 1 command.now) (parameter 2 command.now) (parameter 3 command.now)) buffer.old }
+    ensures { (result_told result, buffer.new) ≡ shown_in command.now (part_shown (storages_of W.ReadStore W.WriteStore.own R.ReadStore first.now second.now) (parameter 1 command.now) (parameter 2 command.now) (parameter 3 command.now)) buffer.old }
 {
     let handle = command.parameters[0];
     let offset = command.parameters[1];

@@ -97,7 +97,7 @@ fn storage_info<W: WriteStore, R: ReadStore>(
     second: &R,
     storage: u32,
 ) -> Result<StorageInfo, OperationFault>
-    ensures { result ≡ storage_told (storages_of W.ReadStore W.WriteStore R.ReadStore first.now second.now) storage }
+    ensures { result ≡ storage_told (storages_of W.ReadStore W.WriteStore.own R.ReadStore first.now second.now) storage }
 {
     if !is_storage(storage) {
         return Err(OperationFault::InvalidStorage);
@@ -117,7 +117,7 @@ pub fn get_storage_info<W: WriteStore, R: ReadStore>(
     command: &Command,
     buffer: &mut [u8],
 ) -> Result<Done, OperationFault>
-    ensures { (result_told result, buffer.new) ≡ shown_in command.now (storage_shown (storages_of W.ReadStore W.WriteStore R.ReadStore first.now second.now) (parameter 1 command.now)) buffer.old }
+    ensures { (result_told result, buffer.new) ≡ shown_in command.now (storage_shown (storages_of W.ReadStore W.WriteStore.own R.ReadStore first.now second.now) (parameter 1 command.now)) buffer.old }
 {
     let info = storage_info(first, second, command.parameters[0])?;
     let written = write_storage_info(buffer, command.code, command.transaction, &info);

@@ -41,7 +41,7 @@ fn cancel_fault(admitted: Result<Admitted, OperationFault>) -> OperationFault
 impl<'w, 'r, W: WriteStore, R: ReadStore> Responder<'w, 'r, W, R> {
     /// Does the session's own steps only.
     fn spare(&mut self, command: &Command, response: &mut [u8; 32]) -> Reply
-        ensures replied { Replied (cancelled (state_of W.ReadStore W.WriteStore R.ReadStore self.old) command.now) result response.old response.new (state_of W.ReadStore W.WriteStore R.ReadStore self.new) }
+        ensures replied { Replied (cancelled (state_of W.ReadStore W.WriteStore.own R.ReadStore self.old) command.now) result response.old response.new (state_of W.ReadStore W.WriteStore.own R.ReadStore self.new) }
         ensures lender { self.new.first.ghost_name ≡ self.old.first.ghost_name }
     {
         let fault = cancel_fault(self.session.admit(command));
@@ -50,7 +50,7 @@ impl<'w, 'r, W: WriteStore, R: ReadStore> Responder<'w, 'r, W, R> {
 
     /// The cable was pulled.
     fn close(&mut self)
-        ensures state { state_of W.ReadStore W.WriteStore R.ReadStore self.new ≡ unplugged (state_of W.ReadStore W.WriteStore R.ReadStore self.old) }
+        ensures state { state_of W.ReadStore W.WriteStore.own R.ReadStore self.new ≡ unplugged (state_of W.ReadStore W.WriteStore.own R.ReadStore self.old) }
         ensures lender { self.new.first.ghost_name ≡ self.old.first.ghost_name }
     {
         self.session.close();
@@ -64,7 +64,7 @@ impl<'w, 'r, W: WriteStore, R: ReadStore> Responder<'w, 'r, W, R> {
         buffer: &mut [u8],
         response: &mut [u8; 32],
     ) -> Reply
-        ensures answered { Answered (answered (state_of W.ReadStore W.WriteStore R.ReadStore self.old) command.now host.now (length buffer.old)) result response.old response.new buffer.old buffer.new (state_of W.ReadStore W.WriteStore R.ReadStore self.new) }
+        ensures answered { Answered (answered (state_of W.ReadStore W.WriteStore.own R.ReadStore self.old) command.now host.now (length buffer.old)) result response.old response.new buffer.old buffer.new (state_of W.ReadStore W.WriteStore.own R.ReadStore self.new) }
         ensures lender { self.new.first.ghost_name ≡ self.old.first.ghost_name }
     {
         let result = self.perform(command, host, buffer);
@@ -72,8 +72,8 @@ impl<'w, 'r, W: WriteStore, R: ReadStore> Responder<'w, 'r, W, R> {
     }
 
     fn over(first: &'w mut W, second: &'r R) -> Responder<'w, 'r, W, R>
-        ensures state { state_of W.ReadStore W.WriteStore R.ReadStore result ≡ fresh (storages_of W.ReadStore W.WriteStore R.ReadStore first.old second.now) }
-        ensures laws { Lawful (storages_of W.ReadStore W.WriteStore R.ReadStore first.old second.now) }
+        ensures state { state_of W.ReadStore W.WriteStore.own R.ReadStore result ≡ fresh (storages_of W.ReadStore W.WriteStore.own R.ReadStore first.old second.now) }
+        ensures laws { Lawful (storages_of W.ReadStore W.WriteStore.own R.ReadStore first.old second.now) }
         ensures lender { result.first.ghost_name ≡ first.entry.ghost_name }
     {
         Responder {
@@ -85,8 +85,8 @@ impl<'w, 'r, W: WriteStore, R: ReadStore> Responder<'w, 'r, W, R> {
 
     /// A responder over two stores. It starts closed.
     pub fn new(first: &'w mut W, second: &'r R) -> Responder<'w, 'r, W, R>
-        ensures state { state_of W.ReadStore W.WriteStore R.ReadStore result ≡ fresh (storages_of W.ReadStore W.WriteStore R.ReadStore first.old second.now) }
-        ensures laws { Lawful (storages_of W.ReadStore W.WriteStore R.ReadStore first.old second.now) }
+        ensures state { state_of W.ReadStore W.WriteStore.own R.ReadStore result ≡ fresh (storages_of W.ReadStore W.WriteStore.own R.ReadStore first.old second.now) }
+        ensures laws { Lawful (storages_of W.ReadStore W.WriteStore.own R.ReadStore first.old second.now) }
         ensures lender { result.first.ghost_name ≡ first.entry.ghost_name }
     {
         Responder::over(first, second)
@@ -101,10 +101,10 @@ impl<'w, 'r, W: WriteStore, R: ReadStore> Responder<'w, 'r, W, R> {
         buffer: &mut [u8],
         response: &mut [u8; 32],
     ) -> Reply
-        ensures reply { told result ≡ told_by (answered (state_of W.ReadStore W.WriteStore R.ReadStore self.old) command.command host.now (length buffer.old)).reply }
-        ensures response { response.new ≡ over (response_of (answered (state_of W.ReadStore W.WriteStore R.ReadStore self.old) command.command host.now (length buffer.old)).reply) response.old }
-        ensures buffer { buffer.new ≡ over (answered (state_of W.ReadStore W.WriteStore R.ReadStore self.old) command.command host.now (length buffer.old)).reply.sent buffer.old }
-        ensures state { state_of W.ReadStore W.WriteStore R.ReadStore self.new ≡ (answered (state_of W.ReadStore W.WriteStore R.ReadStore self.old) command.command host.now (length buffer.old)).state }
+        ensures reply { told result ≡ told_by (answered (state_of W.ReadStore W.WriteStore.own R.ReadStore self.old) command.command host.now (length buffer.old)).reply }
+        ensures response { response.new ≡ over (response_of (answered (state_of W.ReadStore W.WriteStore.own R.ReadStore self.old) command.command host.now (length buffer.old)).reply) response.old }
+        ensures buffer { buffer.new ≡ over (answered (state_of W.ReadStore W.WriteStore.own R.ReadStore self.old) command.command host.now (length buffer.old)).reply.sent buffer.old }
+        ensures state { state_of W.ReadStore W.WriteStore.own R.ReadStore self.new ≡ (answered (state_of W.ReadStore W.WriteStore.own R.ReadStore self.old) command.command host.now (length buffer.old)).state }
         ensures lender { self.new.first.ghost_name ≡ self.old.first.ghost_name }
     {
         let command = command.spend();
@@ -113,9 +113,9 @@ impl<'w, 'r, W: WriteStore, R: ReadStore> Responder<'w, 'r, W, R> {
 
     /// Cancels a command: only the session's own steps are done.
     pub fn cancel(&mut self, command: PendingCommand, response: &mut [u8; 32]) -> Reply
-        ensures reply { told result ≡ told_by (cancelled (state_of W.ReadStore W.WriteStore R.ReadStore self.old) command.command).reply }
-        ensures response { response.new ≡ over (response_of (cancelled (state_of W.ReadStore W.WriteStore R.ReadStore self.old) command.command).reply) response.old }
-        ensures state { state_of W.ReadStore W.WriteStore R.ReadStore self.new ≡ (cancelled (state_of W.ReadStore W.WriteStore R.ReadStore self.old) command.command).state }
+        ensures reply { told result ≡ told_by (cancelled (state_of W.ReadStore W.WriteStore.own R.ReadStore self.old) command.command).reply }
+        ensures response { response.new ≡ over (response_of (cancelled (state_of W.ReadStore W.WriteStore.own R.ReadStore self.old) command.command).reply) response.old }
+        ensures state { state_of W.ReadStore W.WriteStore.own R.ReadStore self.new ≡ (cancelled (state_of W.ReadStore W.WriteStore.own R.ReadStore self.old) command.command).state }
         ensures lender { self.new.first.ghost_name ≡ self.old.first.ghost_name }
     {
         let command = command.spend();
@@ -124,7 +124,7 @@ impl<'w, 'r, W: WriteStore, R: ReadStore> Responder<'w, 'r, W, R> {
 
     /// The cable was pulled: the session ends.
     pub fn unplug(&mut self)
-        ensures state { state_of W.ReadStore W.WriteStore R.ReadStore self.new ≡ unplugged (state_of W.ReadStore W.WriteStore R.ReadStore self.old) }
+        ensures state { state_of W.ReadStore W.WriteStore.own R.ReadStore self.new ≡ unplugged (state_of W.ReadStore W.WriteStore.own R.ReadStore self.old) }
         ensures lender { self.new.first.ghost_name ≡ self.old.first.ghost_name }
     {
         self.close();

@@ -140,20 +140,20 @@ fn is_number(number: u32) -> bool
 impl<'w, 'r, W: WriteStore, R: ReadStore> Responder<'w, 'r, W, R> {
     /// Whether the first storage is meant, and may be written.
     fn is_writable(&self, storage: u32) -> bool
-        ensures { result ≡ (not (storage == second_storage) && not (state_of W.ReadStore W.WriteStore R.ReadStore self.now).storages.locked) }
+        ensures { result ≡ (not (storage == second_storage) && not (state_of W.ReadStore W.WriteStore.own R.ReadStore self.now).storages.locked) }
     {
         storage != SECOND_STORAGE && !self.first.is_locked()
     }
 
     /// Whether a file of this size has room, and a number.
     fn has_place(&self, size: u32, number: u32) -> bool
-        ensures { result ≡ (has_room size (state_of W.ReadStore W.WriteStore R.ReadStore self.now).storages.first && nat_le number last_number) }
+        ensures { result ≡ (has_room size (state_of W.ReadStore W.WriteStore.own R.ReadStore self.now).storages.first && nat_le number last_number) }
     {
         has_room(&*self.first, size) && is_number(number)
     }
 
     fn has_parent(&self, parent: u32) -> bool
-        ensures { result ≡ is_parent parent (state_of W.ReadStore W.WriteStore R.ReadStore self.now).storages.first.files }
+        ensures { result ≡ is_parent parent (state_of W.ReadStore W.WriteStore.own R.ReadStore self.now).storages.first.files }
     {
         is_parent(&*self.first, parent)
     }
@@ -166,7 +166,7 @@ impl<'w, 'r, W: WriteStore, R: ReadStore> Responder<'w, 'r, W, R> {
         format: Format,
     ) -> Result<Announcement, OperationFault>
         ensures room { OnOk result (session.next ≤ 0x7FFFFFFE) }
-        ensures value { result ≡ announced_as (state_of W.ReadStore W.WriteStore R.ReadStore self.now).storages session parent info.now format }
+        ensures value { result ≡ announced_as (state_of W.ReadStore W.WriteStore.own R.ReadStore self.now).storages session parent info.now format }
     {
         if !may_have(format, info.size) {
             return Err(OperationFault::InvalidDataset);
@@ -198,7 +198,7 @@ impl<'w, 'r, W: WriteStore, R: ReadStore> Responder<'w, 'r, W, R> {
         host: &[u8],
     ) -> Result<Announcement, OperationFault>
         ensures room { OnOk result (session.next ≤ 0x7FFFFFFE) }
-        ensures value { result ≡ announcement_told (state_of W.ReadStore W.WriteStore R.ReadStore self.now).storages session command.now host.now }
+        ensures value { result ≡ announcement_told (state_of W.ReadStore W.WriteStore.own R.ReadStore self.now).storages session command.now host.now }
     {
         let storage = command.parameters[0];
         if !means_storage(storage) {
@@ -223,7 +223,7 @@ impl<'w, 'r, W: WriteStore, R: ReadStore> Responder<'w, 'r, W, R> {
     ) -> Result<Parameters, OperationFault>
         requires same { self.old.session.session ≡ Open session }
         requires room { session.next ≤ 0x7FFFFFFE }
-        ensures acted { Acted (state_of W.ReadStore W.WriteStore R.ReadStore self.old).storages (settled (state_of W.ReadStore W.WriteStore R.ReadStore self.old).storages.first (Open session) (announced (state_of W.ReadStore W.WriteStore R.ReadStore self.old).storages session (listed told) announcement.now)) result (state_of W.ReadStore W.WriteStore R.ReadStore self.new) }
+        ensures acted { Acted (state_of W.ReadStore W.WriteStore.own R.ReadStore self.old).storages (settled (state_of W.ReadStore W.WriteStore.own R.ReadStore self.old).storages.first (Open session) (announced (state_of W.ReadStore W.WriteStore.own R.ReadStore self.old).storages session (listed told) announcement.now)) result (state_of W.ReadStore W.WriteStore.own R.ReadStore self.new) }
         ensures lender { self.new.first.ghost_name ≡ self.old.first.ghost_name }
     {
         if announcement.format.is_folder() {
@@ -244,7 +244,7 @@ impl<'w, 'r, W: WriteStore, R: ReadStore> Responder<'w, 'r, W, R> {
         host: &[u8],
     ) -> Result<Parameters, OperationFault>
         requires { self.old.session.session ≡ Open session }
-        ensures acted { Acted (state_of W.ReadStore W.WriteStore R.ReadStore self.old).storages (info_sent (state_of W.ReadStore W.WriteStore R.ReadStore self.old).storages session command.now host.now) result (state_of W.ReadStore W.WriteStore R.ReadStore self.new) }
+        ensures acted { Acted (state_of W.ReadStore W.WriteStore.own R.ReadStore self.old).storages (info_sent (state_of W.ReadStore W.WriteStore.own R.ReadStore self.old).storages session command.now host.now) result (state_of W.ReadStore W.WriteStore.own R.ReadStore self.new) }
         ensures lender { self.new.first.ghost_name ≡ self.old.first.ghost_name }
     {
         let announcement = self.announcement(session, command, host)?;
@@ -257,7 +257,7 @@ impl<'w, 'r, W: WriteStore, R: ReadStore> Responder<'w, 'r, W, R> {
     }
 
     fn next_number(&self) -> u32
-        ensures { result ≡ past_last 1 (state_of W.ReadStore W.WriteStore R.ReadStore self.now).storages.first.files }
+        ensures { result ≡ past_last 1 (state_of W.ReadStore W.WriteStore.own R.ReadStore self.now).storages.first.files }
     {
         past_last(&*self.first)
     }
@@ -265,7 +265,7 @@ impl<'w, 'r, W: WriteStore, R: ReadStore> Responder<'w, 'r, W, R> {
     /// OpenSession.
     pub(crate) fn open_session(&mut self, id: u32) -> Result<Parameters, OperationFault>
         requires { self.old.session.session ≡ Closed }
-        ensures acted { Acted (state_of W.ReadStore W.WriteStore R.ReadStore self.old).storages (session_opened (state_of W.ReadStore W.WriteStore R.ReadStore self.old).storages id) result (state_of W.ReadStore W.WriteStore R.ReadStore self.new) }
+        ensures acted { Acted (state_of W.ReadStore W.WriteStore.own R.ReadStore self.old).storages (session_opened (state_of W.ReadStore W.WriteStore.own R.ReadStore self.old).storages id) result (state_of W.ReadStore W.WriteStore.own R.ReadStore self.new) }
         ensures lender { self.new.first.ghost_name ≡ self.old.first.ghost_name }
     {
         if is_no_session(id) {
@@ -278,7 +278,7 @@ impl<'w, 'r, W: WriteStore, R: ReadStore> Responder<'w, 'r, W, R> {
 
     /// CloseSession.
     pub(crate) fn close_session(&mut self) -> Result<Parameters, OperationFault>
-        ensures acted { Acted (state_of W.ReadStore W.WriteStore R.ReadStore self.old).storages (session_closed (state_of W.ReadStore W.WriteStore R.ReadStore self.old).storages) result (state_of W.ReadStore W.WriteStore R.ReadStore self.new) }
+        ensures acted { Acted (state_of W.ReadStore W.WriteStore.own R.ReadStore self.old).storages (session_closed (state_of W.ReadStore W.WriteStore.own R.ReadStore self.old).storages) result (state_of W.ReadStore W.WriteStore.own R.ReadStore self.new) }
         ensures lender { self.new.first.ghost_name ≡ self.old.first.ghost_name }
     {
         self.session.close();
@@ -287,7 +287,7 @@ impl<'w, 'r, W: WriteStore, R: ReadStore> Responder<'w, 'r, W, R> {
 
     /// Whether an object may be deleted, as far as the store is not asked.
     fn deletable(&self, handle: u32, format: u32) -> Result<(), OperationFault>
-        ensures { result ≡ deletable (state_of W.ReadStore W.WriteStore R.ReadStore self.now).storages handle format }
+        ensures { result ≡ deletable (state_of W.ReadStore W.WriteStore.own R.ReadStore self.now).storages handle format }
     {
         if format != 0 {
             return Err(OperationFault::FormatNotSupported);
@@ -310,7 +310,7 @@ impl<'w, 'r, W: WriteStore, R: ReadStore> Responder<'w, 'r, W, R> {
         format: u32,
     ) -> Result<Parameters, OperationFault>
         requires { self.old.session.session ≡ Open session }
-        ensures acted { Acted (state_of W.ReadStore W.WriteStore R.ReadStore self.old).storages (object_deleted (state_of W.ReadStore W.WriteStore R.ReadStore self.old).storages session handle format) result (state_of W.ReadStore W.WriteStore R.ReadStore self.new) }
+        ensures acted { Acted (state_of W.ReadStore W.WriteStore.own R.ReadStore self.old).storages (object_deleted (state_of W.ReadStore W.WriteStore.own R.ReadStore self.old).storages session handle format) result (state_of W.ReadStore W.WriteStore.own R.ReadStore self.new) }
         ensures lender { self.new.first.ghost_name ≡ self.old.first.ghost_name }
     {
         self.deletable(handle, format)?;
@@ -327,7 +327,7 @@ impl<'w, 'r, W: WriteStore, R: ReadStore> Responder<'w, 'r, W, R> {
         host: &[u8],
     ) -> Result<Parameters, OperationFault>
         requires { self.old.session.session ≡ Open session }
-        ensures acted { Acted (state_of W.ReadStore W.WriteStore R.ReadStore self.old).storages (sent_for (state_of W.ReadStore W.WriteStore R.ReadStore self.old).storages session command.now host.now (Some announcement.now)) result (state_of W.ReadStore W.WriteStore R.ReadStore self.new) }
+        ensures acted { Acted (state_of W.ReadStore W.WriteStore.own R.ReadStore self.old).storages (sent_for (state_of W.ReadStore W.WriteStore.own R.ReadStore self.old).storages session command.now host.now (Some announcement.now)) result (state_of W.ReadStore W.WriteStore.own R.ReadStore self.new) }
         ensures lender { self.new.first.ghost_name ≡ self.old.first.ghost_name }
     {
         self.session.rest();
@@ -345,7 +345,7 @@ impl<'w, 'r, W: WriteStore, R: ReadStore> Responder<'w, 'r, W, R> {
         host: &[u8],
     ) -> Result<Parameters, OperationFault>
         requires { self.old.session.session ≡ Open session }
-        ensures acted { Acted (state_of W.ReadStore W.WriteStore R.ReadStore self.old).storages (object_sent (state_of W.ReadStore W.WriteStore R.ReadStore self.old).storages session command.now host.now) result (state_of W.ReadStore W.WriteStore R.ReadStore self.new) }
+        ensures acted { Acted (state_of W.ReadStore W.WriteStore.own R.ReadStore self.old).storages (object_sent (state_of W.ReadStore W.WriteStore.own R.ReadStore self.old).storages session command.now host.now) result (state_of W.ReadStore W.WriteStore.own R.ReadStore self.new) }
         ensures lender { self.new.first.ghost_name ≡ self.old.first.ghost_name }
     {
         match session.transfer {

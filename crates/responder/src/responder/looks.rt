@@ -18,7 +18,7 @@ use wire::command::Command;
 impl<'w, 'r, W: WriteStore, R: ReadStore> Responder<'w, 'r, W, R> {
     /// What is told of the file with a handle, or that there is none.
     pub(crate) fn file(&self, handle: u32) -> Result<FileInfo, OperationFault>
-        ensures { result ≡ file_told (state_of W.ReadStore W.WriteStore R.ReadStore self.now).storages handle }
+        ensures { result ≡ file_told (state_of W.ReadStore W.WriteStore.own R.ReadStore self.now).storages handle }
     {
         objects::file(&*self.first, self.second, handle)
     }
@@ -29,7 +29,7 @@ impl<'w, 'r, W: WriteStore, R: ReadStore> Responder<'w, 'r, W, R> {
         command: &Command,
         buffer: &mut [u8],
     ) -> Result<Done, OperationFault>
-        ensures { (result_told result, buffer.new) ≡ shown_in command.now (storage_shown (state_of W.ReadStore W.WriteStore R.ReadStore self.now).storages (parameter 1 command.now)) buffer.old }
+        ensures { (result_told result, buffer.new) ≡ shown_in command.now (storage_shown (state_of W.ReadStore W.WriteStore.own R.ReadStore self.now).storages (parameter 1 command.now)) buffer.old }
     {
         storages::get_storage_info(&*self.first, self.second, command, buffer)
     }
@@ -40,7 +40,7 @@ impl<'w, 'r, W: WriteStore, R: ReadStore> Responder<'w, 'r, W, R> {
         command: &Command,
         buffer: &mut [u8],
     ) -> Result<Done, OperationFault>
-        ensures { (result_told result, buffer.new) ≡ shown_in command.now (handles_shown (state_of W.ReadStore W.WriteStore R.ReadStore self.now).storages (parameter 1 command.now) (parameter 2 command.now) (parameter 3 command.now)) buffer.old }
+        ensures { (result_told result, buffer.new) ≡ shown_in command.now (handles_shown (state_of W.ReadStore W.WriteStore.own R.ReadStore self.now).storages (parameter 1 command.now) (parameter 2 command.now) (parameter 3 command.now)) buffer.old }
     {
         listing::get_object_handles(&*self.first, self.second, command, buffer)
     }
@@ -51,7 +51,7 @@ impl<'w, 'r, W: WriteStore, R: ReadStore> Responder<'w, 'r, W, R> {
         command: &Command,
         buffer: &mut [u8],
     ) -> Result<Done, OperationFault>
-        ensures { (result_told result, buffer.new) ≡ shown_in command.now (info_shown (state_of W.ReadStore W.WriteStore R.ReadStore self.now).storages (parameter 1 command.now)) buffer.old }
+        ensures { (result_told result, buffer.new) ≡ shown_in command.now (info_shown (state_of W.ReadStore W.WriteStore.own R.ReadStore self.now).storages (parameter 1 command.now)) buffer.old }
     {
         objects::get_object_info(&*self.first, self.second, command, buffer)
     }
@@ -62,7 +62,7 @@ impl<'w, 'r, W: WriteStore, R: ReadStore> Responder<'w, 'r, W, R> {
         command: &Command,
         buffer: &mut [u8],
     ) -> Result<Done, OperationFault>
-        ensures { (result_told result, buffer.new) ≡ shown_in command.now (object_shown (state_of W.ReadStore W.WriteStore R.ReadStore self.now).storages (parameter 1 command.now)) buffer.old }
+        ensures { (result_told result, buffer.new) ≡ shown_in command.now (object_shown (state_of W.ReadStore W.WriteStore.own R.ReadStore self.now).storages (parameter 1 command.now)) buffer.old }
     {
         objects::get_object(&*self.first, self.second, command, buffer)
     }
@@ -73,7 +73,7 @@ impl<'w, 'r, W: WriteStore, R: ReadStore> Responder<'w, 'r, W, R> {
         command: &Command,
         buffer: &mut [u8],
     ) -> Result<Done, OperationFault>
-        ensures { (result_told result, buffer.new) ≡ shown_in command.now (part_shown (state_of W.ReadStore W.WriteStore R.ReadStore self.now).storages (parameter 1 command.now) (parameter 2 command.now) (parameter 3 command.now)) buffer.old }
+        ensures { (result_told result, buffer.new) ≡ shown_in command.now (part_shown (state_of W.ReadStore W.WriteStore.own R.ReadStore self.now).storages (parameter 1 command.now) (parameter 2 command.now) (parameter 3 command.now)) buffer.old }
     {
         objects::get_partial_object(&*self.first, self.second, command, buffer)
     }

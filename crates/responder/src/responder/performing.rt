@@ -31,7 +31,7 @@ impl<'w, 'r, W: WriteStore, R: ReadStore> Responder<'w, 'r, W, R> {
         buffer: &mut [u8],
     ) -> Result<Done, OperationFault>
         requires { self.old.session.session ≡ Open session }
-        ensures performed { Performed (performed (task_of command.now.code) (state_of W.ReadStore W.WriteStore R.ReadStore self.old).storages session command.now host.now (length buffer.old)) command.now result buffer.old buffer.new (state_of W.ReadStore W.WriteStore R.ReadStore self.new) }
+        ensures performed { Performed (performed (task_of command.now.code) (state_of W.ReadStore W.WriteStore.own R.ReadStore self.old).storages session command.now host.now (length buffer.old)) command.now result buffer.old buffer.new (state_of W.ReadStore W.WriteStore.own R.ReadStore self.new) }
         ensures lender { self.new.first.ghost_name ≡ self.old.first.ghost_name }
     {
         match command.code {
@@ -61,7 +61,7 @@ impl<'w, 'r, W: WriteStore, R: ReadStore> Responder<'w, 'r, W, R> {
         buffer: &mut [u8],
     ) -> Result<Done, OperationFault>
         requires { self.old.session.session ≡ Closed }
-        ensures performed { Performed (performed_closed (state_of W.ReadStore W.WriteStore R.ReadStore self.old).storages command.now (length buffer.old)) command.now result buffer.old buffer.new (state_of W.ReadStore W.WriteStore R.ReadStore self.new) }
+        ensures performed { Performed (performed_closed (state_of W.ReadStore W.WriteStore.own R.ReadStore self.old).storages command.now (length buffer.old)) command.now result buffer.old buffer.new (state_of W.ReadStore W.WriteStore.own R.ReadStore self.new) }
         ensures lender { self.new.first.ghost_name ≡ self.old.first.ghost_name }
     {
         match command.code {
@@ -77,7 +77,7 @@ impl<'w, 'r, W: WriteStore, R: ReadStore> Responder<'w, 'r, W, R> {
         host: &[u8],
         buffer: &mut [u8],
     ) -> Result<Done, OperationFault>
-        ensures performed { Performed (answered (state_of W.ReadStore W.WriteStore R.ReadStore self.old) command.now host.now (length buffer.old)) command.now result buffer.old buffer.new (state_of W.ReadStore W.WriteStore R.ReadStore self.new) }
+        ensures performed { Performed (answered (state_of W.ReadStore W.WriteStore.own R.ReadStore self.old) command.now host.now (length buffer.old)) command.now result buffer.old buffer.new (state_of W.ReadStore W.WriteStore.own R.ReadStore self.new) }
         ensures lender { self.new.first.ghost_name ≡ self.old.first.ghost_name }
     {
         let admitted = self.session.admit(command)?;
