@@ -1,9 +1,8 @@
 -- What the writers of whole containers answer.
-use Rattle.std.proofs.Common.{◌≡◌, ℕ, ◌+◌, ◌*◌, ◌<◌, ◌≤◌, Bool, true, false, cond, leb, List, [], ◌∷◌, ◌++◌, length, drop, Ok, Err, Result, sym, refl, ap, ◌∙◌, subst, zero-add, arith}
-use Rattle.std.proofs.lemmas.List.{length-append}
+use Rattle.std.proofs.Common.{◌≡◌, ℕ, ◌+◌, ◌*◌, ◌<◌, ◌≤◌, Bool, true, false, cond, leb, List, ◌++◌, length, drop, Ok, Err, Result, sym, refl, ap, ◌∙◌, zero-add, arith}
 use Rattle.std.proofs.lemmas.Bool.{le-leb, lt-leb, leb-true, leb-false, cond-true, cond-false}
 use Rattle.byte_parts.specs.Parts.{over}
-use Rattle.wire.specs.Containers.{container, data_container, data_type, head, numbers}
+use Rattle.wire.specs.Containers.{container, data_container, data_type, head}
 use Rattle.wire.specs.Strings.{array}
 use Rattle.wire.specs.Writing.{Wrote, placed, placed_in, written}
 use Rattle.wire.specs.declared.fault.DatasetFault.{DatasetFault}

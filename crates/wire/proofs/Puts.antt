@@ -1,5 +1,5 @@
 -- Writes one behind the other.
-use Rattle.std.proofs.Common.{◌≡◌, ℕ, suc, ◌+◌, ◌*◌, ◌/◌, ◌%◌, ◌<◌, ◌≤◌, List, [], ◌∷◌, ◌++◌, length, get_or, take, drop, sym, refl, ap, ◌∙◌, subst, append_assoc, add-zero, add_assoc, mul-le-mul_left, zero-add, arith, length-append, length-drop, take-append-drop, length-take}
+use Rattle.std.proofs.Common.{◌≡◌, ℕ, suc, ◌+◌, ◌*◌, ◌/◌, ◌%◌, ◌<◌, ◌≤◌, List, [], ◌∷◌, ◌++◌, length, get_or, take, drop, sym, refl, ap, ◌∙◌, subst, append_assoc, add-zero, add_assoc, mul-le-mul_left, arith, length-append, length-drop, take-append-drop, length-take}
 use native.Mathlib.Nat.{div-div-eq-div-mul}
 use Rattle.std.proofs.lemmas.List.{take_at, drop_at, drop-drop, take_more, take_all, length-take-le}
 use Rattle.byte_parts.specs.Numbers.{le}
@@ -7,7 +7,7 @@ use Rattle.byte_parts.proofs.LittleEndian.{length_le}
 use Rattle.object.specs.Names.{unit_bytes}
 use Rattle.wire.specs.Containers.{numbers}
 use Rattle.wire.specs.Strings.{string}
-use Rattle.wire.specs.Writing.{put, Wrote}
+use Rattle.wire.specs.Writing.{Wrote}
 
 pub length_put : {place n : ℕ} {a xs ys : List ℕ} → Wrote place a xs ys n → length ys ≡ length xs
 length_put {place} {n} {a} {xs} {ys} w =

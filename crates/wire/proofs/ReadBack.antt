@@ -1,14 +1,14 @@
 -- What is written is read back: containers, arrays and strings.
-use Rattle.std.proofs.Common.{◌≡◌, ℕ, zero, suc, ◌+◌, ◌-◌, ◌*◌, ◌/◌, ◌%◌, ◌^◌, ◌<◌, ◌≤◌, Bool, true, false, cond, ◌&&◌, eqb, leb, List, [], ◌∷◌, ◌++◌, length, take, drop, replicate, Some, None, Option, sym, refl, ap, ◌∙◌, subst, append_assoc, arith}
+use Rattle.std.proofs.Common.{◌≡◌, ℕ, zero, suc, ◌+◌, ◌-◌, ◌*◌, ◌/◌, ◌%◌, ◌^◌, ◌<◌, ◌≤◌, Bool, true, false, cond, ◌&&◌, eqb, leb, List, [], ◌∷◌, ◌++◌, length, take, drop, Some, None, Option, sym, refl, ap, ◌∙◌, subst, append_assoc, arith}
 use Rattle.std.specs.List.{AllByRecursion as All}
-use Rattle.std.proofs.lemmas.List.{take_at, drop_at, drop-drop, take-append-drop, length-append, length-drop, length-take-le}
+use Rattle.std.proofs.lemmas.List.{take_at, drop_at, drop-drop, take-append-drop, length-drop, length-take-le}
 use Rattle.std.proofs.ByRecursion.{All-take, All-drop}
 use Rattle.std.proofs.lemmas.Bool.{eq-eqb, ne_eqb, eqb-true, le-leb, leb-true, and_from, and_parts, cond-true, cond-false}
 use Rattle.byte_parts.specs.Numbers.{Bytes, le, value}
 use Rattle.byte_parts.proofs.Cutting.{none_some, some_same, through}
 use Rattle.byte_parts.proofs.LittleEndian.{length_le, value_le, value_bound, le_value}
 use Rattle.object.specs.Names.{unit_bytes}
-use Rattle.wire.specs.Containers.{number_at, numbers, container, is_container, is_command, is_data, command_type, data_type, response_type, command_in, payload_in, data_container, head, response}
+use Rattle.wire.specs.Containers.{number_at, numbers, container, is_container, is_command, is_data, command_type, data_type, response_type, command_in, payload_in, data_container}
 use Rattle.wire.specs.Laws.{UnitFits, StringsReadBack, five, Carried, CommandsReadBack, DataReadsBack, HeadsJoin, ResponseFits, response_bytes, ResponsesReadBack, ArraysReadBack}
 use Rattle.wire.specs.Readers.{number_list, Response, response_in, array_in}
 use Rattle.wire.specs.Strings.{string, Read, with_unit, closed_units, string_in, array}

@@ -1,5 +1,5 @@
 -- What is written is read back: each encoding determines what it encodes.
-use Rattle.std.specs.Prelude.{◌≡◌, ℕ, ◌+◌, ◌-◌, ◌^◌, ◌<◌, ◌≤◌, List, [], ◌∷◌, ◌++◌, length, replicate, Some, None}
+use Rattle.std.specs.Prelude.{◌≡◌, ℕ, ◌+◌, ◌-◌, ◌^◌, ◌<◌, ◌≤◌, List, ◌++◌, length, replicate, Some}
 use Rattle.std.specs.List.{AllByRecursion as All}
 use Rattle.byte_parts.specs.Numbers.{Bytes}
 use Rattle.wire.specs.Containers.{container, command_type, command_in, payload_in, data_container, data_type, head, numbers, response}

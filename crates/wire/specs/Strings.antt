@@ -1,5 +1,5 @@
 -- Strings and arrays.
-use Rattle.std.specs.Prelude.{ℕ, zero, suc, ◌+◌, ◌*◌, Bool, true, false, cond, not, ◌&&◌, List, [], ◌∷◌, ◌++◌, length, Some, None, Option, ◌==◌}
+use Rattle.std.specs.Prelude.{ℕ, zero, suc, ◌+◌, ◌*◌, cond, List, [], ◌∷◌, ◌++◌, length, Some, None, Option, ◌==◌}
 use Rattle.byte_parts.specs.Numbers.{le}
 use Rattle.object.specs.Names.{unit_bytes}
 use Rattle.wire.specs.Containers.{numbers}

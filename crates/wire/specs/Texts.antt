@@ -1,5 +1,5 @@
 -- What the reader of a string hands on.
-use Rattle.std.specs.Prelude.{ℕ, List, Some, None, Option}
+use Rattle.std.specs.Prelude.{ℕ, List, Some, Option}
 use Rattle.object.specs.Names.{units_in}
 use Rattle.wire.specs.declared.string.Text.{Text}
 use Rattle.wire.specs.Strings.{Read}

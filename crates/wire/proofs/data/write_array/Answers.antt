@@ -1,4 +1,4 @@
-use Rattle.std.proofs.Common.{◌≡◌, ◌+◌, ◌*◌, length, sym, arith}
+use Rattle.std.proofs.Common.{◌+◌, ◌*◌, length, sym, arith}
 use Rattle.std.proofs.lemmas.Result.{err_from_is_err_and}
 use Rattle.wire.specs.Strings.{array}
 use Rattle.wire.proofs.Placed.{data_short, data_refused, data_room, data_placed, length_array}

@@ -1,4 +1,4 @@
-use Rattle.std.proofs.Common.{◌≡◌, ◌<◌, length, sym, arith, false-eqb}
+use Rattle.std.proofs.Common.{◌<◌, length, sym, arith, false-eqb}
 use Rattle.wire.proofs.Puts.{put_then, put_same, string_some, length_string, length_numbers, length_put}
 use Rattle.wire.proofs.put.put_string.Goals as goal
 

@@ -1,4 +1,4 @@
-use Rattle.std.proofs.Common.{◌≡◌, ◌*◌, ◌++◌, length, sym, ap, ◌∙◌, arith}
+use Rattle.std.proofs.Common.{◌*◌, ◌++◌, length, sym, ap, ◌∙◌, arith}
 use Rattle.wire.specs.Containers.{head, numbers, response_type}
 use Rattle.wire.proofs.Placed.{wrote_over, length_head, head_joins}
 use Rattle.wire.proofs.Puts.{put_then, put_same, length_put, length_numbers}
