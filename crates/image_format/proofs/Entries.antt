@@ -1,8 +1,7 @@
 -- Lists of files that grow at the end.
-use Rattle.std.proofs.Common.{◌≡◌, ℕ, suc, ◌+◌, ◌-◌, ◌<◌, ◌≤◌, Bool, true, false, cond, eqb, ltb, ◌⊎◌, List, [], ◌∷◌, ◌++◌, length, Some, None, Option, sym, refl, ap, ◌∙◌, subst, inl, inr, arith}
-use Rattle.std.proofs.lemmas.Bool.{eqb-true, eqb-false, ltb-true, ltb-false, eq-eqb, ne_eqb, cases_eq}
-use Rattle.byte_parts.proofs.Cutting.{none_some, some_same}
-use Rattle.store.specs.Contents.{File, Entry, Contents, total, lookup, next_above}
+use Rattle.std.proofs.Common.{◌≡◌, ℕ, ◌+◌, ◌-◌, ◌<◌, ◌≤◌, Bool, true, false, cond, eqb, ltb, List, [], ◌∷◌, ◌++◌, length, Some, None, Option, sym, refl, ap, ◌∙◌, arith}
+use Rattle.std.proofs.lemmas.Bool.{eqb-true, ltb-true, ltb-false}
+use Rattle.store.specs.Contents.{File, Entry, total, lookup, next_above}
 use Rattle.store.specs.Sound.{Ascending}
 use Rattle.image_format.specs.Parsed.{last_of}
 

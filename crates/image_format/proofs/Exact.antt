@@ -1,26 +1,22 @@
 -- Exactly the images are accepted.
-use Rattle.std.proofs.Common.{◌≡◌, ℕ, zero, suc, ◌+◌, ◌-◌, ◌*◌, ◌<◌, ◌≤◌, Bool, true, false, cond, not, ◌&&◌, ◌||◌, eqb, ltb, leb, ◌⊎◌, List, [], ◌∷◌, ◌++◌, length, Some, None, Ok, Err, Option, Result, sym, refl, ap, ◌∙◌, subst, inl, inr, ⊎_elim, arith}
-use Rattle.std.specs.Option.{option_map}
-use Rattle.std.proofs.lemmas.List.{append_assoc, append-nil, length-append, length_push, nil_from_length}
-use Rattle.std.proofs.lemmas.Bool.{and_from, lt-ltb, le-leb, eq-eqb, ne_eqb, or_right, or_left, or_cases, cond-true, eqb-true, cases_Bool, not_from_false}
-use Rattle.byte_parts.specs.Numbers.{Bytes, le}
-use Rattle.byte_parts.proofs.Cutting.{none_some, some_same}
-use Rattle.object.specs.Formats.{format_number, is_folder}
+use Rattle.std.proofs.Common.{◌≡◌, ℕ, zero, suc, ◌+◌, ◌-◌, ◌*◌, ◌<◌, ◌≤◌, Bool, true, false, cond, not, ◌||◌, eqb, List, [], ◌∷◌, ◌++◌, length, Some, None, Ok, Err, Option, Result, sym, refl, ap, ◌∙◌, subst, ⊎_elim, arith}
+use Rattle.std.proofs.lemmas.List.{append_assoc, append-nil, length_push, nil_from_length}
+use Rattle.std.proofs.lemmas.Bool.{and_from, lt-ltb, le-leb, eq-eqb, ne_eqb, cond-true, eqb-true, cases_Bool}
+use Rattle.byte_parts.specs.Numbers.{Bytes}
+use Rattle.object.specs.Formats.{is_folder}
 use Rattle.object.specs.Names.{units_of, unit_bytes, name_in}
-use Rattle.object.specs.declared.name.Name.{Name}
-use Rattle.object.specs.declared.protection.Protection.TheVariants.{ReadOnly}
 use Rattle.object.proofs.Reading.{name_bytes, bytes_name, length_unit_bytes}
 use Rattle.object.proofs.Stored.{units_short}
-use Rattle.store.specs.Contents.{File, Entry, Contents, total, lookup}
-use Rattle.store.specs.Sound.{Ascending, folder_there, is_parent, last_number, EachFile, Sound}
+use Rattle.store.specs.Contents.{Entry, Contents, total, lookup}
+use Rattle.store.specs.Sound.{Ascending, folder_there, is_parent, last_number, Sound}
 use Rattle.image_format.specs.Encoded.{field, head_tag, name_tag, body_tag, head_bytes, file_fields, image_of}
 use Rattle.image_format.specs.Images.{IsImage, ImageLaws}
-use Rattle.image_format.specs.Parsed.{bind, cut_field, read_field, head_in, checked, right_head, right_body, need, entry_of, file_by, and_then, files_from, full_of, parsed, last_of}
+use Rattle.image_format.specs.Parsed.{read_field, head_in, checked, right_head, right_body, need, file_by, and_then, files_from, full_of, parsed, last_of}
 use Rattle.image_format.specs.declared.fault.SpoiltImage.{SpoiltImage}
 use Rattle.image_format.specs.declared.field.Head.{Head}
 use Rattle.image_format.proofs.Entries.{lookup_low, total_push}
 use Rattle.image_format.proofs.Fields.{field_cut, cut_field_of, head_read, head_there}
-use Rattle.image_format.proofs.Front.{Front, front_none, front_push, front_sound, right, folder_file, found_last, lookup_longer}
+use Rattle.image_format.proofs.Front.{Front, front_none, front_push, front_sound, right}
 use Rattle.image_format.proofs.Inverted.{head_of, FileRead, file_read, ok_same, err_ok, read_there, checked_there, file_from, headed, named, body_read, whole}
 use Rattle.image_format.proofs.Walked.{Walked, walked_push, file_next}
 use Rattle.image_format.proofs.Opening.{from_none, from_more, from_full, err_same}

@@ -1,13 +1,11 @@
 -- Fields, heads and files: what is written is read back, and nothing else is read.
-use Rattle.std.proofs.Common.{◌≡◌, ℕ, ◌+◌, ◌*◌, ◌%◌, ◌^◌, ◌<◌, ◌≤◌, Bool, true, false, cond, eqb, List, [], ◌∷◌, ◌++◌, length, Some, None, Option, sym, refl, ap, ◌∙◌, subst, arith}
+use Rattle.std.proofs.Common.{◌≡◌, ℕ, ◌%◌, ◌^◌, ◌<◌, Bool, true, false, cond, eqb, List, [], ◌∷◌, ◌++◌, length, Some, None, Option, sym, refl, ap, ◌∙◌, subst, arith}
 use Rattle.std.specs.Option.{option_map}
-use Rattle.std.specs.List.{AllByRecursion as All}
-use Rattle.std.proofs.ByRecursion.{All-take, All-drop}
-use Rattle.std.proofs.lemmas.List.{append_assoc, append-nil, nil_from_length, take_at, drop_at}
+use Rattle.std.proofs.lemmas.List.{append_assoc, append-nil, nil_from_length}
 use Rattle.std.proofs.lemmas.Bool.{eqb-true, eq-eqb, cond-true}
 use Rattle.byte_parts.specs.Numbers.{Bytes, le, cut_number}
 use Rattle.byte_parts.specs.Parts.{cut_part}
-use Rattle.byte_parts.proofs.Cutting.{none_some, some_same, through, Cut, part_cut, cut_front, Number, number_cut, cut_le}
+use Rattle.byte_parts.proofs.Cutting.{none_some, some_same, part_cut, cut_front, number_cut, cut_le}
 use Rattle.object.specs.Formats.{format_number, formats, format_of}
 use Rattle.object.specs.Numbered.{with_number}
 use Rattle.object.specs.declared.format.Format.{Format}

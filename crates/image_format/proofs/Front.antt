@@ -1,11 +1,10 @@
 -- The files at the front of an image: what every one of them keeps to, and that one more does.
-use Rattle.std.proofs.Common.{◌≡◌, ℕ, zero, suc, ◌+◌, ◌-◌, ◌*◌, ◌<◌, ◌≤◌, Bool, true, false, cond, not, ◌&&◌, ◌||◌, eqb, ltb, leb, ◌⊎◌, List, [], ◌∷◌, ◌++◌, length, Some, None, Option, sym, refl, ap, ◌∙◌, subst, inl, inr, ⊎_elim, arith}
+use Rattle.std.proofs.Common.{◌≡◌, ℕ, ◌*◌, ◌<◌, ◌≤◌, Bool, true, false, cond, not, ◌||◌, eqb, ltb, leb, ◌⊎◌, List, [], ◌∷◌, ◌++◌, length, Some, None, Option, refl, ap, ◌∙◌, subst, inl, inr, ⊎_elim, arith}
 use Rattle.std.proofs.lemmas.Bool.{and_parts, ltb-true, leb-true, eqb-true, or_cases, or_left, or_right, false≢true}
 use Rattle.byte_parts.proofs.Cutting.{none_some, some_same}
 use Rattle.object.specs.Formats.{is_folder}
-use Rattle.object.specs.declared.format.Format.{Format}
 use Rattle.object.specs.declared.protection.Protection.TheVariants.{ReadOnly}
-use Rattle.store.specs.Contents.{File, Entry, Contents, total, lookup}
+use Rattle.store.specs.Contents.{File, Entry, total, lookup}
 use Rattle.store.specs.Sound.{Ascending, folder_there, is_parent, last_number, EachFile, Sound}
 use Rattle.image_format.specs.Parsed.{right_head, right_body, full_of, last_of}
 use Rattle.image_format.proofs.Entries.{ascending_push}

@@ -1,11 +1,11 @@
 -- What a reading that went well tells of the bytes.
-use Rattle.std.proofs.Common.{◌≡◌, ℕ, Bool, true, false, cond, List, [], ◌∷◌, ◌++◌, Some, None, Ok, Err, Option, Result, sym, refl, ap, ◌∙◌, subst, arith}
+use Rattle.std.proofs.Common.{◌≡◌, ℕ, Bool, true, cond, List, Some, None, Ok, Err, Option, Result, refl, ap, ◌∙◌, subst, arith}
 use Rattle.std.specs.Option.{option_map}
 use Rattle.byte_parts.proofs.Cutting.{none_some, some_same, through}
 use Rattle.object.specs.Names.{name_in}
 use Rattle.object.specs.declared.name.Name.{Name}
 use Rattle.object.specs.declared.protection.Protection.TheVariants.{ReadOnly}
-use Rattle.store.specs.Contents.{File, Entry}
+use Rattle.store.specs.Contents.{Entry}
 use Rattle.image_format.specs.Encoded.{head_tag, name_tag, body_tag}
 use Rattle.image_format.specs.Parsed.{bind, cut_field, read_field, head_in, checked, right_body, need, file_by, entry_of}
 use Rattle.image_format.specs.declared.fault.SpoiltImage.{SpoiltImage}

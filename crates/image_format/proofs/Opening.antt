@@ -1,18 +1,16 @@
 -- How the opener comes to its answer: the files so far, and what they leave to read.
-use Rattle.std.proofs.Common.{◌≡◌, ℕ, zero, suc, ◌+◌, ◌-◌, ◌*◌, ◌<◌, ◌≤◌, Bool, true, false, cond, ◌&&◌, ◌||◌, eqb, ltb, leb, List, [], ◌∷◌, ◌++◌, length, Some, None, Ok, Err, Option, Result, sym, refl, ap, ◌∙◌, subst, arith}
+use Rattle.std.proofs.Common.{◌≡◌, ℕ, zero, suc, ◌+◌, ◌-◌, ◌*◌, ◌<◌, ◌≤◌, Bool, true, false, cond, ◌&&◌, ◌||◌, eqb, ltb, leb, List, [], ◌∷◌, ◌++◌, length, Some, None, Ok, Err, Option, Result, sym, refl, ap, ◌∙◌, arith}
 use Rattle.std.proofs.lemmas.List.{length_push}
 use Rattle.std.proofs.lemmas.Bool.{and_parts, ltb-true}
-use Rattle.object.specs.Formats.{is_folder}
-use Rattle.store.specs.Contents.{File, Entry, Contents, total, lookup}
+use Rattle.store.specs.Contents.{Entry, total}
 use Rattle.store.specs.Sound.{Ascending, folder_there, is_parent, last_number}
 use Rattle.image_format.specs.Parsed.{right_head, file_by, and_then, files_from, full_of, parsed, last_of}
 use Rattle.image_format.specs.Walk.{Plain, sought, numbered, sought_at, folder_sought, right_behind, summed, ok_by, layout_of}
 use Rattle.image_format.specs.declared.fault.SpoiltImage.{SpoiltImage}
-use Rattle.image_format.specs.declared.field.Head.{Head}
 use Rattle.image_format.specs.declared.layout.Layout.{Layout}
 use Rattle.image_format.proofs.Entries.{first_above, file_numbered, lookup_first, last_push, total_push, ascending_push}
 use Rattle.image_format.proofs.Inverted.{head_of, file_read, ok_same, err_ok}
-use Rattle.image_format.proofs.Walked.{Walked, walked_push, Finds, sought_walked, Lies, file_next}
+use Rattle.image_format.proofs.Walked.{Walked, walked_push, Finds, sought_walked, file_next}
 
 -- the walk finds a folder where looking up does
 folder_found : (n : ℕ) (o : Option Plain) (p : Option Entry) → Finds o p → folder_sought (numbered n o) ≡ folder_there (file_numbered n p)

@@ -1,5 +1,5 @@
 -- One step of the walk over an image.
-use Rattle.std.proofs.Common.{◌≡◌, ℕ, suc, cond, ltb, List, Some, None, Option, sym, refl, ap, ◌∙◌}
+use Rattle.std.proofs.Common.{◌≡◌, ℕ, suc, cond, ltb, List, Some, Option, sym, ap, ◌∙◌}
 use Rattle.image_format.specs.Parsed.{bind}
 use Rattle.image_format.specs.Walk.{Plain, cut_record, sought}
 

@@ -1,15 +1,11 @@
 -- Walking over an image visits the files that it holds.
-use Rattle.std.proofs.Common.{◌≡◌, ℕ, suc, ◌+◌, ◌-◌, ◌<◌, ◌≤◌, Bool, true, false, cond, eqb, ltb, List, [], ◌∷◌, ◌++◌, length, Some, None, Ok, Err, Option, Result, sym, refl, ap, ◌∙◌, subst, arith}
-use Rattle.std.specs.Option.{option_map}
-use Rattle.byte_parts.proofs.Cutting.{none_some, some_same}
+use Rattle.std.proofs.Common.{◌≡◌, ℕ, Bool, true, false, cond, ltb, List, [], ◌∷◌, ◌++◌, length, Some, None, Ok, Option, sym, refl, ap, ◌∙◌, subst}
 use Rattle.object.specs.Names.{name_in}
-use Rattle.object.specs.declared.name.Name.{Name}
 use Rattle.object.specs.declared.protection.Protection.TheVariants.{ReadOnly}
-use Rattle.store.specs.Contents.{File, Entry, Contents, total, lookup, next_above}
-use Rattle.image_format.specs.Encoded.{head_tag, name_tag, body_tag}
-use Rattle.image_format.specs.Parsed.{bind, cut_field, read_field, head_in, checked, right_body, need, file_by, entry_of}
-use Rattle.image_format.specs.Walk.{Plain, cut_record, sought, numbered}
-use Rattle.image_format.specs.declared.fault.SpoiltImage.{SpoiltImage}
+use Rattle.store.specs.Contents.{Entry}
+use Rattle.image_format.specs.Encoded.{name_tag, body_tag}
+use Rattle.image_format.specs.Parsed.{bind, cut_field, head_in, file_by}
+use Rattle.image_format.specs.Walk.{Plain, cut_record, sought}
 use Rattle.image_format.specs.declared.field.Head.{Head}
 use Rattle.image_format.proofs.Entries.{first_above}
 use Rattle.image_format.proofs.Inverted.{head_of, file_read}

@@ -1,5 +1,5 @@
 -- What it is to be an image, in the subject's words, and the laws of opening one.
-use Rattle.std.specs.Prelude.{◌≡◌, ℕ, ◌<◌, ◌≤◌, List, length, Ok, Err, Result}
+use Rattle.std.specs.Prelude.{◌≡◌, ℕ, ◌<◌, ◌≤◌, List, length, Ok, Err}
 use Rattle.byte_parts.specs.Numbers.{Bytes}
 use Rattle.object.specs.declared.protection.Protection.TheVariants.{ReadOnly}
 use Rattle.store.specs.Contents.{Contents, total}

@@ -1,5 +1,5 @@
 -- What an image holds, or where it is wrong, for every list of bytes.
-use Rattle.std.specs.Prelude.{ℕ, zero, suc, ◌+◌, ◌-◌, Bool, true, false, cond, not, ◌&&◌, ◌||◌, List, [], ◌∷◌, ◌++◌, length, Some, None, Ok, Err, Option, Result, ◌==◌, nat_le, nat_lt}
+use Rattle.std.specs.Prelude.{ℕ, zero, suc, ◌-◌, Bool, cond, not, ◌&&◌, ◌||◌, List, [], ◌∷◌, ◌++◌, length, Some, None, Ok, Err, Option, Result, ◌==◌, nat_le, nat_lt}
 use Rattle.std.specs.Option.{option_map}
 use Rattle.byte_parts.specs.Numbers.{cut_number}
 use Rattle.byte_parts.specs.Parts.{cut_part}
@@ -8,7 +8,7 @@ use Rattle.object.specs.Names.{name_in}
 use Rattle.object.specs.declared.format.Format.{Format}
 use Rattle.object.specs.declared.name.Name.{Name}
 use Rattle.object.specs.declared.protection.Protection.TheVariants.{ReadOnly}
-use Rattle.store.specs.Contents.{File, Entry, Contents, total}
+use Rattle.store.specs.Contents.{Entry, Contents, total}
 use Rattle.store.specs.Sound.{is_parent, last_number, max_length, max_files}
 use Rattle.image_format.specs.Encoded.{head_tag, name_tag, body_tag}
 use Rattle.image_format.specs.declared.field.Head.{Head}

@@ -1,7 +1,6 @@
 -- The walk over an image, as the code goes: not what is promised, but what the promises are proved from.
 use Rattle.std.specs.Prelude.{ℕ, zero, suc, ◌-◌, Bool, false, cond, ◌&&◌, ◌||◌, List, length, Some, None, Ok, Err, Option, Result, ◌==◌, nat_le, nat_lt}
 use Rattle.std.specs.Borrow.{Bor}
-use Rattle.std.specs.Option.{option_map}
 use Rattle.object.specs.Formats.{is_folder}
 use Rattle.object.specs.declared.name.Name.{Name}
 use Rattle.store.specs.Contents.{Entry, Contents, total}

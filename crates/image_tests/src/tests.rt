@@ -1,5 +1,5 @@
 //! What an image holds, and where it is wrong.
-use image::store::ImageStore;
+use image::image_store::ImageStore;
 use object::format::Format;
 use object::protection::Protection;
 use std::alloc::{AllocError, Global};

@@ -6,7 +6,7 @@ ghost use Rattle.inspect.specs.Words.{totals_line, totals_of, missing_line, wron
 
 use crate::listing::rows_of;
 use crate::table::table_of;
-use image::store::ImageStore;
+use image::image_store::ImageStore;
 use image_format::fault::SpoiltImage;
 use std::alloc::{AllocError, Global};
 use store::read::ReadStore;

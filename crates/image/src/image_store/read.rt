@@ -6,7 +6,7 @@ ghost use Rattle.store.specs.Infos.{described};
 ghost use Rattle.image.specs.Held.{held};
 ghost use Rattle.image.specs.HeldSound.{held_sound};
 
-use crate::store::ImageStore;
+use crate::image_store::ImageStore;
 use byte_parts::copy::copy_fitting;
 use image_format::seek::{find, seek_above};
 use object::name::Name;

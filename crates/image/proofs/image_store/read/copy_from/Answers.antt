@@ -1,7 +1,7 @@
-use Rattle.std.proofs.Common.{◌≡◌, List, [], ◌++◌, length, take, drop, sym, ap, ◌∙◌, arith}
+use Rattle.std.proofs.Common.{◌≡◌, [], ◌++◌, length, take, drop, sym, ap, ◌∙◌, arith}
 use lib.Seq.{take-nil}
 use Rattle.std.proofs.lemmas.List.{drop_all}
-use Rattle.image.proofs.store.read.copy_from.Goals as goal
+use Rattle.image.proofs.image_store.read.copy_from.Goals as goal
 
 pub returns-in-None : goal.returns-in-None
 returns-in-None c =

@@ -1,10 +1,10 @@
-use Rattle.std.proofs.Common.{◌≡◌, ◌≤◌, length, Some, sym, ap, ◌∙◌, rules}
+use Rattle.std.proofs.Common.{◌≤◌, length, Some, sym, ap, ◌∙◌, rules}
 use Rattle.std.specs.Option.{option_map}
 use Rattle.byte_parts.proofs.Cutting.{none_some}
 use Rattle.store.specs.Infos.{info_of}
 use Rattle.image_format.specs.Walk.{plain_of}
 use Rattle.image.proofs.Asked.{told_some, told_none, body_short, info_told}
-use Rattle.image.proofs.store.ImageStore.info.Goals as goal
+use Rattle.image.proofs.image_store.ImageStore.info.Goals as goal
 
 pub returns-in_err-record : goal.returns-in_err-record
 returns-in_err-record c =

@@ -4,7 +4,7 @@ ghost use Rattle.image.specs.Held.{held, verdict_of};
 ghost use Rattle.image_format.specs.Images.{ImageLaws, IsImage};
 ghost use Rattle.image_format.specs.Parsed.{parsed};
 
-use crate::store::{ImageStore, Opened};
+use crate::image_store::{ImageStore, Opened};
 use image_format::open::layout_in;
 
 impl<'a> ImageStore<'a> {

@@ -1,11 +1,11 @@
-use Rattle.std.proofs.Common.{◌≡◌, [], length, take, drop, sym, refl, ap, ◌∙◌, arith}
+use Rattle.std.proofs.Common.{◌≡◌, [], length, take, drop, sym, ap, ◌∙◌, arith}
 use lib.Seq.{take-nil, drop-nil}
 use Rattle.byte_parts.specs.Parts.{fitting, over}
 use Rattle.store.specs.Contents.{bytes_of, rest_of}
 use Rattle.image_format.specs.Walk.{plain_of}
 use Rattle.image.specs.Held.{held}
 use Rattle.image.proofs.Asked.{told_some, told_none}
-use Rattle.image.proofs.store.ImageStore.copy_rest.Goals as goal
+use Rattle.image.proofs.image_store.ImageStore.copy_rest.Goals as goal
 
 pub returns-in-Some : goal.returns-in-Some
 returns-in-Some c =

@@ -1,6 +1,6 @@
-use Rattle.std.proofs.Common.{sym, ap, ◌∙◌}
+use Rattle.std.proofs.Common.{ap, ◌∙◌}
 use Rattle.image.proofs.Asked.{number_in, asked_next}
-use Rattle.image.proofs.store.ImageStore.number_above.Goals as goal
+use Rattle.image.proofs.image_store.ImageStore.number_above.Goals as goal
 
 pub returns-in_err-record : goal.returns-in_err-record
 returns-in_err-record c =

@@ -1,13 +1,13 @@
-use Rattle.std.proofs.Common.{◌≡◌, ◌<◌, sym, refl, ap, ◌∙◌, arith}
+use Rattle.std.proofs.Common.{◌<◌, sym, refl, ap, ◌∙◌, arith}
 use Rattle.std.proofs.ByRecursion.{All-from_get_or}
 use Rattle.image_format.proofs.Exact.{image_laws}
 use Rattle.image_format.proofs.Inverted.{err_ok}
 use Rattle.image.specs.Held.{held, held_by, holds, accepted_with}
 use Rattle.image.proofs.Asked.{layout_held, layout_refused, held_image, empty_held}
-use Rattle.image.proofs.store.ImageStore.open.Goals as goal
+use Rattle.image.proofs.image_store.ImageStore.open.Goals as goal
 
 pub invariant_of-store-in-Err : goal.invariant_of-store-in-Err
-invariant_of-store-in-Err c = (ap (λ bs. holds bs 0 0) c.split_at.ensures.front ∙ ap (λ r. accepted_with r 0 0) empty_held, tt)
+invariant_of-store-in-Err c = record { right = ap (λ bs. holds bs 0 0) c.split_at.ensures.front ∙ ap (λ r. accepted_with r 0 0) empty_held }
 
 pub returns-in-Ok : goal.returns-in-Ok
 returns-in-Ok c =
