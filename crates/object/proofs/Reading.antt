@@ -2,7 +2,7 @@
 use Rattle.std.proofs.Common.{◌≡◌, ℕ, ◌+◌, ◌*◌, ◌/◌, ◌%◌, ◌<◌, ◌≤◌, true, ltb, leb, List, [], ◌∷◌, ◌++◌, length, take, set, replicate, Some, None, Option, sym, refl, ap, ◌∙◌, arith}
 use Rattle.object.specs.declared.name.Name.{Name}
 use Rattle.std.proofs.lemmas.List.{append_assoc, length-append, length-set, length-take-le, take_more_set}
-use Rattle.std.specs.List.{AllByRecursion as All}
+use Rattle.std.specs.List.{AllByRecursion}
 use Rattle.std.proofs.lemmas.Bool.{and_parts, ltb-true}
 use Rattle.byte_parts.specs.Numbers.{Bytes, le, cut_number}
 use Rattle.byte_parts.proofs.LittleEndian.{le_value}
@@ -64,19 +64,19 @@ module _ (bytes cs : List ℕ) (i : ℕ) (rest after : List ℕ) (u : ℕ) (s : 
           (refused us (not_long us (omega arith))).value ∙ ap named_some (ap (with_units (take i cs ++ (u ∷ []))) (sym q) ∙ next)
 
 -- legal units fit 16 bits
-all_fit : (us : List ℕ) → all legal_unit us ≡ true → All (λ u. u < 65536) us
+all_fit : (us : List ℕ) → all legal_unit us ≡ true → AllByRecursion (λ u. u < 65536) us
 all_fit [] e = tt
 all_fit (u ∷ us) e =
     let p = and_parts (legal_unit u) (all legal_unit us) e in
     let q = and_parts (leb 0x0020 u) _ p.0 in
     (ltb-true u 65536 (and_parts (ltb u 65536) _ q.1).0, all_fit us p.1)
 
-legal_fit : (us : List ℕ) → legal_name us ≡ true → All (λ u. u < 65536) us
+legal_fit : (us : List ℕ) → legal_name us ≡ true → AllByRecursion (λ u. u < 65536) us
 unfolding legal_name
 legal_fit us e =
     all_fit us (and_parts (leb (length us) 63) (all legal_unit us) (and_parts (leb 1 (length us)) _ e).1).1
 
-units_bytes : (us : List ℕ) → All (λ u. u < 65536) us → units_in (unit_bytes us) ≡ Some us
+units_bytes : (us : List ℕ) → AllByRecursion (λ u. u < 65536) us → units_in (unit_bytes us) ≡ Some us
 units_bytes [] h = refl
 units_bytes (u ∷ us) h =
     let w : u % 256 + 256 * (u / 256 % 256) ≡ u = omega (arith, h.0) in

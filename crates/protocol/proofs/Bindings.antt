@@ -1,6 +1,6 @@
 -- Lists of bindings: who is bound, and to what.
 use Rattle.std.proofs.Common.{◌≡◌, ℕ, ◌+◌, ◌<◌, ◌≤◌, ◌⊎◌, List, [], ◌∷◌, ◌++◌, Some, sym, refl, ap, ◌∙◌, inl, inr, arith}
-use Rattle.std.specs.List.{AllByRecursion as All}
+use Rattle.std.specs.List.{AllByRecursion}
 use Rattle.std.proofs.lemmas.Bool.{cases_eq}
 use Rattle.byte_parts.proofs.Cutting.{none_some, some_same}
 use Rattle.store.specs.Contents.{File, Entry, lookup}
@@ -12,7 +12,7 @@ use Rattle.protocol.specs.Keeping.{Binding, bound_on, Bound, Unbound, Once, NotA
 
 -- handles below a number, or on the second storage
 abbrev pub Apart : ℕ → List Binding → Type 0
-Apart n bs = All (λ (b : Binding). (b.handle < n) ⊎ (second_base ≤ b.handle)) bs
+Apart n bs = AllByRecursion (λ (b : Binding). (b.handle < n) ⊎ (second_base ≤ b.handle)) bs
 
 pub apart_more : (a b : ℕ) (bs : List Binding) → a ≤ b → Apart a bs → Apart b bs
 apart_more a b [] h k = tt
@@ -22,7 +22,7 @@ apart_more a b (x ∷ bs) h k = (by k.0, apart_more a b bs h k.1)
     by (inl l) = inl (omega arith)
     by (inr l) = inr l
 
-pub below_more : (a b : ℕ) (ns : List ℕ) → a ≤ b → All (λ n. n < a) ns → All (λ n. n < b) ns
+pub below_more : (a b : ℕ) (ns : List ℕ) → a ≤ b → AllByRecursion (λ n. n < a) ns → AllByRecursion (λ n. n < b) ns
 below_more a b [] h k = tt
 below_more a b (n ∷ ns) h k = (omega (arith, k.0), below_more a b ns h k.1)
 
@@ -34,7 +34,7 @@ apart_unbound n (b ∷ bs) h k = (by k.0, apart_unbound n bs h k.1)
     by (inl l) e = omega arith
     by (inr l) e = omega arith
 
-pub below_not_among : (n : ℕ) (ns : List ℕ) → All (λ m. m < n) ns → NotAmong n ns
+pub below_not_among : (n : ℕ) (ns : List ℕ) → AllByRecursion (λ m. m < n) ns → NotAmong n ns
 below_not_among n [] k = tt
 below_not_among n (m ∷ ns) k = ((λ e. omega (arith, k.0)), below_not_among n ns k.1)
 

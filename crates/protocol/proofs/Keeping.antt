@@ -1,7 +1,7 @@
 -- Each call of a session is fair to what went before, and keeps the session true to it.
 use Rattle.std.proofs.Common.{◌≡◌, ℕ, suc, ◌+◌, ◌-◌, ◌<◌, ◌≤◌, Bool, true, false, cond, eqb, ltb, ◌⊎◌, List, [], ◌∷◌, ◌++◌, Some, None, Option, sym, refl, ap, ◌∙◌, subst, inl, inr, zero-add, arith}
 use mathlib.Core.List.{cons≢nil, head-eq_of_cons-eq, tail-eq_of_cons-eq}
-use Rattle.std.specs.List.{AllByRecursion as All}
+use Rattle.std.specs.List.{AllByRecursion}
 use Rattle.std.proofs.lemmas.Bool.{eq-eqb, ne_eqb, ltb-false, cases_eq, cond-true, cond-false, true≢false}
 use Rattle.byte_parts.proofs.Cutting.{none_some, some_same}
 use Rattle.object.specs.Formats.{is_folder}
@@ -53,7 +53,7 @@ pub record TrueTo (o : Storages) (sn : Seen) (p : Storages) (s : OpenSession) : 
   pub files : FilesBound p sn.bindings
   pub bindings_apart : Apart s.next sn.bindings
   pub opening_apart : Apart s.next (bound_at_opening o)
-  pub given_below : All (λ h. h < s.next) sn.given
+  pub given_below : AllByRecursion (λ h. h < s.next) sn.given
   pub once : Once sn.bindings
   pub awaits : Awaits s.transfer sn.given sn.bindings
 
@@ -94,7 +94,7 @@ true_same o sn p s t i fits e w = record {
   files = i.files;
   bindings_apart = subst (λ n. Apart n sn.bindings) (sym e) i.bindings_apart;
   opening_apart = subst (λ n. Apart n (bound_at_opening o)) (sym e) i.opening_apart;
-  given_below = subst (λ n. All (λ h. h < n) sn.given) (sym e) i.given_below;
+  given_below = subst (λ n. AllByRecursion (λ h. h < n) sn.given) (sym e) i.given_below;
   once = i.once;
   awaits = w;
 }
@@ -234,7 +234,7 @@ sent_good : (o : Storages) (sn : Seen) (p : Storages) (s : OpenSession) (c : Com
 sent_good o sn p s c host i e d leads b =
     by sn.given (subst (λ t. Awaits t sn.given sn.bindings) b.stood i.awaits) i.given_below
   where
-    by : (gs : List ℕ) → Awaits (Announced b.announcement) gs sn.bindings → All (λ h. h < s.next) gs
+    by : (gs : List ℕ) → Awaits (Announced b.announcement) gs sn.bindings → AllByRecursion (λ h. h < s.next) gs
         → Good o (record { bindings = sn.bindings; given = gs }) c host (acted p c (acceptance [] d (Open (at_rest (moved s)))))
     by [] w g = absurd w
     by (h ∷ hs) w g = (

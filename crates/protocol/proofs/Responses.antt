@@ -1,7 +1,7 @@
 -- Responses are read back, and every reply fits its response.
 use Rattle.std.proofs.Common.{◌≡◌, ℕ, zero, suc, ◌+◌, ◌-◌, ◌*◌, ◌/◌, ◌%◌, ◌^◌, ◌<◌, ◌≤◌, Bool, true, false, cond, eqb, leb, ◌⊎◌, List, [], ◌∷◌, ◌++◌, length, get_or, take, drop, Some, sym, refl, ap, ◌∙◌, subst, inl, inr, arith}
 use native.Mathlib.Nat.{min-le_right}
-use Rattle.std.specs.List.{AllByRecursion as All}
+use Rattle.std.specs.List.{AllByRecursion}
 use Rattle.std.proofs.ByRecursion.{All-get_or, All-take, All-drop}
 use Rattle.std.proofs.lemmas.List.{length-take, length-drop, length-take-le, take-append-drop, drop-drop, nil_from_length}
 use Rattle.std.proofs.lemmas.Bool.{and_from, and_parts, leb-true, le-leb, eqb-true, eq-eqb, cond-true, cases_eq}
@@ -37,7 +37,7 @@ length_numbers : (ps : List ℕ) → length (numbers 4 ps) ≡ 4 * length ps
 length_numbers [] = refl
 length_numbers (p ∷ ps) = let h = length_numbers ps in omega arith
 
-numbers_back : (ps : List ℕ) → All (λ n. n < 2 ^ 32) ps → numbers_in (length ps) (numbers 4 ps) ≡ ps
+numbers_back : (ps : List ℕ) → AllByRecursion (λ n. n < 2 ^ 32) ps → numbers_in (length ps) (numbers 4 ps) ≡ ps
 numbers_back [] f = refl
 numbers_back (p ∷ ps) f =
     let h : value (le 4 p) ≡ p = value_le 4 p (omega (arith, f.0)) in
@@ -134,7 +134,7 @@ fault_fits ObjectTooLarge = omega arith
 
 -- parameters that fit
 abbrev Fit : List ℕ → Type 0
-Fit ps = (length ps ≤ 5) × All (λ n. n < 2 ^ 32) ps
+Fit ps = (length ps ≤ 5) × AllByRecursion (λ n. n < 2 ^ 32) ps
 
 fit_none : {ps : List ℕ} → ps ≡ [] → Fit ps
 fit_none e = subst Fit (sym e) (omega arith, tt)
@@ -215,7 +215,7 @@ spared_good p _ c _ r i (steps.Spared.passed s w) = plain_good TransactionCancel
 
 -- over lists of calls
 call_good : (p : Storages) (s : Session) (x : Call) → SoundStorages p → SessionFits p s → IdFits s → RealCall x
-    → All ReplyFits (replies_in (event (record { storages = p; session = s }) x ∷ [])) × IdFits (next_state (record { storages = p; session = s }) x).session
+    → AllByRecursion ReplyFits (replies_in (event (record { storages = p; session = s }) x ∷ [])) × IdFits (next_state (record { storages = p; session = s }) x).session
 unfolding unplugged
 call_good p Closed (answer c host room) k f i r = let g = closed_good p c _ r.0 (closed_went p c room host) in ((g.0, tt), g.1)
 call_good p (Open s) (answer c host room) k f i r = let g = went_good p s c host _ k f r.0 i (open_went p s c host room f) in ((g.0, tt), g.1)
@@ -223,13 +223,13 @@ call_good p s (cancel c) k f i r = let g = spared_good p s c _ r i (cancel_went 
 call_good p s unplug k f i r = (tt, tt)
 
 -- the replies of a first event and of the rest
-replies_first : (b : State) (x : Call) (es : List Event) → All ReplyFits (replies_in (event b x ∷ []))
-    → All ReplyFits (replies_in es) → All ReplyFits (replies_in (event b x ∷ es))
+replies_first : (b : State) (x : Call) (es : List Event) → AllByRecursion ReplyFits (replies_in (event b x ∷ []))
+    → AllByRecursion ReplyFits (replies_in es) → AllByRecursion ReplyFits (replies_in (event b x ∷ es))
 replies_first b (answer c host room) es h r = (h.0, r)
 replies_first b (cancel c) es h r = (h.0, r)
 replies_first b unplug es h r = r
 
-all_fit : (b : State) (calls : List Call) → SoundStorages b.storages → StateFits b → IdFits b.session → Real calls → All ReplyFits (replies b calls)
+all_fit : (b : State) (calls : List Call) → SoundStorages b.storages → StateFits b → IdFits b.session → Real calls → AllByRecursion ReplyFits (replies b calls)
 all_fit b [] k f i r = tt
 all_fit b (x ∷ xs) k f i r =
     let g = call_good b.storages b.session x k f i r.0 in

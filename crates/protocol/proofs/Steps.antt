@@ -1,6 +1,6 @@
 -- What each call comes to, by the law of its operation. All that is said of runs rests on this.
 use Rattle.std.proofs.Common.{◌≡◌, ℕ, suc, ◌≤◌, Bool, true, false, cond, not, ◌&&◌, ◌||◌, eqb, leb, ◌⊎◌, List, [], ◌∷◌, length, Some, None, Ok, Err, Option, Result, sym, refl, ap, ◌∙◌, subst, inl, inr, arith}
-use Rattle.std.specs.List.{AllByRecursion as All}
+use Rattle.std.specs.List.{AllByRecursion}
 use Rattle.std.proofs.lemmas.Bool.{eqb-true, eqb-false, or_cases, cond_both}
 use Rattle.byte_parts.proofs.Cutting.{none_some}
 use Rattle.object.specs.Formats.{is_folder}
@@ -131,13 +131,13 @@ known P Q R (Err e) h k = h
 
 -- the operation that goes with a code, by the rows of the table
 by_rows : (P : Option Task → Type 0) (code : ℕ) (rs : List Row)
-    → All (λ (r : Row). code ≡ r.code → P (Some r.task)) rs
-    → (All (λ (r : Row). code ≡ r.code → ⊥) rs → P None)
+    → AllByRecursion (λ (r : Row). code ≡ r.code → P (Some r.task)) rs
+    → (AllByRecursion (λ (r : Row). code ≡ r.code → ⊥) rs → P None)
     → P (task_in rs code)
 by_rows P code [] each none = none tt
 by_rows P code (r ∷ rs) each none = by (λ n. by_rows P code rs each.1 n) (eqb r.code code) refl
   where
-    by : ((All (λ (r : Row). code ≡ r.code → ⊥) rs → P None) → P (task_in rs code)) → (t : Bool) → eqb r.code code ≡ t
+    by : ((AllByRecursion (λ (r : Row). code ≡ r.code → ⊥) rs → P None) → P (task_in rs code)) → (t : Bool) → eqb r.code code ≡ t
         → P (cond t (Some r.task) (task_in rs code))
     by rest true q = each.0 (sym (eqb-true r.code code q))
     by rest false q = rest (λ m. none ((λ e. eqb-false r.code code q (sym e)), m))

@@ -1,6 +1,6 @@
 -- Replies tell the contents, and nothing else.
 use Rattle.std.specs.Prelude.{◌≡◌, ◌^◌, ◌<◌, List, length}
-use Rattle.std.specs.List.{AllByRecursion as All}
+use Rattle.std.specs.List.{AllByRecursion}
 use Rattle.byte_parts.specs.Numbers.{Bytes}
 use Rattle.wire.specs.declared.command.Command.{Command}
 use Rattle.protocol.specs.Storages.{Storages, SoundStorages}
@@ -11,7 +11,7 @@ pub record RealCommand (c : Command) : Type 0 where
   pub code_fits : c.code < 2 ^ 16
   pub transaction_fits : c.transaction < 2 ^ 32
   pub five : length c.parameters ≡ 5
-  pub parameters_fit : All (λ n. n < 2 ^ 32) c.parameters
+  pub parameters_fit : AllByRecursion (λ n. n < 2 ^ 32) c.parameters
 
 abbrev pub RealCall : Call → Type 0
 RealCall (answer c host room) = RealCommand c × Bytes host × (length host < 2 ^ 63) × (room < 2 ^ 63)
@@ -19,7 +19,7 @@ RealCall (cancel c) = RealCommand c
 RealCall unplug = Unit {0}
 
 abbrev pub Real : List Call → Type 0
-Real calls = All RealCall calls
+Real calls = AllByRecursion RealCall calls
 
 -- new responders over the two pairs of storages reply alike to every list of calls that a host can make
 abbrev pub Alike : Storages → Storages → Type 0

@@ -1,6 +1,6 @@
 -- Responses as bytes: their reader, and that they determine the reply.
 use Rattle.std.specs.Prelude.{◌≡◌, ℕ, zero, suc, ◌-◌, ◌/◌, ◌%◌, ◌^◌, ◌<◌, ◌≤◌, cond, ◌&&◌, List, [], ◌∷◌, length, drop, Some, None, Option, ◌==◌, nat_le}
-use Rattle.std.specs.List.{AllByRecursion as All}
+use Rattle.std.specs.List.{AllByRecursion}
 use Rattle.byte_parts.specs.Numbers.{Bytes}
 use Rattle.wire.specs.Containers.{number_at, is_container, response_type, response}
 use Rattle.protocol.specs.Storages.{Storages, SoundStorages}
@@ -33,7 +33,7 @@ pub record ReplyFits (r : Reply) : Type 0 where
   pub code_fits : r.code < 2 ^ 16
   pub transaction_fits : r.transaction < 2 ^ 32
   pub at_most_five : length r.parameters ≤ 5
-  pub parameters_fit : All (λ n. n < 2 ^ 32) r.parameters
+  pub parameters_fit : AllByRecursion (λ n. n < 2 ^ 32) r.parameters
 
 pub record ResponsesTellReplies : Type 0 where
   -- a response is read back
@@ -41,6 +41,6 @@ pub record ResponsesTellReplies : Type 0 where
   -- and nothing else is taken for a response
   pub pinned : (bs : List ℕ) (x : Response) → Bytes bs → response_in bs ≡ Some x → bs ≡ response x.code x.transaction x.parameters
   -- every reply to calls that a host can make fits
-  pub fit : (p : Storages) → SoundStorages p → (calls : List Call) → Real calls → All ReplyFits (replies (fresh p) calls)
+  pub fit : (p : Storages) → SoundStorages p → (calls : List Call) → Real calls → AllByRecursion ReplyFits (replies (fresh p) calls)
   -- so replies with the same bytes are the same
   pub same : (r q : Reply) → ReplyFits r → ReplyFits q → response_of r ≡ response_of q → r.sent ≡ q.sent → r ≡ q

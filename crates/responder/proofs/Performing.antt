@@ -1,7 +1,7 @@
 -- From an operation's own contract to what the session machine has for it.
 use Rattle.std.proofs.Common.{◌≡◌, ℕ, Bool, true, false, cond, eqb, leb, List, [], ◌∷◌, length, Some, None, Ok, Err, Option, Result, sym, refl, ap, ◌∙◌, subst, arith}
 use Rattle.std.proofs.lemmas.Bool.{eqb-true}
-use Rattle.std.specs.List.{AllByRecursion as All}
+use Rattle.std.specs.List.{AllByRecursion}
 use Rattle.byte_parts.specs.Parts.{over}
 use Rattle.wire.specs.declared.operation.Operation.{Operation}
 use Rattle.protocol.specs.declared.session.OpenSession.{OpenSession}
@@ -71,7 +71,7 @@ pub task_at : (code k : ℕ) → code ≡ k → task_of code ≡ task_in tasks k
 unfolding task_of
 task_at code k e = ap (task_in tasks) e
 
-pub none_in : (rs : List Row) (code : ℕ) → All (λ (r : Row). code ≡ r.code → ⊥) rs → task_in rs code ≡ None
+pub none_in : (rs : List Row) (code : ℕ) → AllByRecursion (λ (r : Row). code ≡ r.code → ⊥) rs → task_in rs code ≡ None
 none_in [] code a = refl
 none_in (r ∷ rs) code a = by (eqb r.code code) refl (none_in rs code a.1)
   where
@@ -79,7 +79,7 @@ none_in (r ∷ rs) code a = by (eqb r.code code) refl (none_in rs code a.1)
     by true q rest = absurd (a.0 (sym (eqb-true r.code code q)))
     by false q rest = rest
 
-pub task_none : (code : ℕ) → All (λ (r : Row). code ≡ r.code → ⊥) tasks → task_of code ≡ None
+pub task_none : (code : ℕ) → AllByRecursion (λ (r : Row). code ≡ r.code → ⊥) tasks → task_of code ≡ None
 unfolding task_of
 task_none code a = none_in tasks code a
 

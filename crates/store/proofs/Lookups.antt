@@ -1,6 +1,6 @@
 -- Ascending lists of files: what looking up, inserting and leaving out do to them.
 use Rattle.std.proofs.Common.{◌≡◌, ℕ, suc, ◌+◌, ◌<◌, ◌≤◌, Bool, true, false, cond, eqb, ltb, ◌⊎◌, List, [], ◌∷◌, length, Some, None, Option, sym, refl, ap, ◌∙◌, subst, inl, inr, arith}
-use Rattle.std.specs.List.{AllByRecursion as All}
+use Rattle.std.specs.List.{AllByRecursion}
 use Rattle.std.proofs.lemmas.Bool.{eqb-true, eqb-false, ltb-true, ltb-false, eq-eqb, ne_eqb, cases_eq, cases_order, or_parts}
 use Rattle.byte_parts.proofs.Cutting.{none_some, some_same}
 use Rattle.store.specs.Contents.{File, Entry, total, lookup}
@@ -167,7 +167,7 @@ same_files lo (x ∷ xs) (y ∷ ys) a b s =
     by (inr (inr l)) = absurd (same_first y x ys xs a.1 (λ n. sym (s n)) l)
 
 -- a fact of each entry is one of every file
-pub each_from : (P : ℕ → File → Type 0) (es : List Entry) → All (λ (e : Entry). P e.number e.file) es → EachFile es P
+pub each_from : (P : ℕ → File → Type 0) (es : List Entry) → AllByRecursion (λ (e : Entry). P e.number e.file) es → EachFile es P
 each_from P [] a n f e = absurd (none_some e)
 each_from P (x ∷ es) a n f e = by (each_from P es a.1 n f) (cases_eq x.number n)
   where

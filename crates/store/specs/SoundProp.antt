@@ -1,10 +1,9 @@
 -- That contents are sound is one fact: it has one proof at most.
-use Rattle.std.specs.Prelude.{◌≡◌, ℕ, true, List, [], ◌∷◌, length}
+use Rattle.std.specs.Prelude.{ℕ, true, List, [], ◌∷◌, length}
 use Rattle.std.proofs.Math.Bool.{Bool-set}
 use mathlib.Core.HLevel.{Π_prop, ×_prop, Unit-prop}
 use Rattle.std.proofs.Math.Bridge.{le_prop}
 use Rattle.std.proofs.Math.Nat.{ℕ_set}
-use Rattle.object.specs.Formats.{is_folder}
 use Rattle.store.specs.Contents.{File, Entry, Contents}
 use Rattle.store.specs.Sound.{Sound, Ascending, EachFile, is_parent}
 

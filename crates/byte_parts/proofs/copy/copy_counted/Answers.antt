@@ -1,4 +1,4 @@
-use Rattle.std.proofs.Common.{◌≡◌, length, sym, ap, ◌∙◌, arith}
+use Rattle.std.proofs.Common.{length, sym, ap, ◌∙◌, arith}
 use native.Mathlib.Nat.{sub-zero, min-le_left}
 use Rattle.byte_parts.proofs.Fitting.{fits_min, length_fits_min}
 use Rattle.byte_parts.proofs.copy.copy_counted.Goals as goal
