@@ -13,7 +13,7 @@ use Rattle.heap_store.specs.Checked.{addition}
 use Rattle.heap_store.specs.declared.memory.Memory.{Memory}
 use Rattle.heap_store.specs.declared.row.Row.{Row}
 use Rattle.heap_store.specs.declared.row.Place.{Place}
-use Rattle.heap_store.specs.declared.store.HeapStore.{HeapStore}
+use Rattle.heap_store.specs.declared.heap.HeapStore.{HeapStore}
 use Rattle.heap_store.proofs.Changed.{files_added, taken_added}
 use Rattle.heap_store.proofs.Checked.{grown, addition_done}
 use Rattle.heap_store.proofs.Files.{place_rank, place_start}

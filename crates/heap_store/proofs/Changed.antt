@@ -1,5 +1,5 @@
 -- What rows and bytes hold after a file is put in or taken out.
-use Rattle.std.proofs.Common.{◌≡◌, ℕ, ◌+◌, ◌≤◌, Bool, true, false, cond, eqb, ltb, List, [], ◌∷◌, ◌++◌, length, take, drop, IfSome, Some, None, Option, sym, refl, ap, ◌∙◌, add_assoc, arith, length-drop, take-append-drop, length-take-le, take-take, drop-drop, take_at, drop_at, MatchOption}
+use Rattle.std.proofs.Common.{◌≡◌, ℕ, ◌+◌, ◌≤◌, Bool, true, false, cond, eqb, ltb, List, [], ◌∷◌, ◌++◌, length, take, drop, IfSome, Some, None, Option, sym, ap, ◌∙◌, add_assoc, arith, length-drop, take-append-drop, length-take-le, take-take, drop-drop, take_at, drop_at, MatchOption}
 use lib.Seq.{take-append-le}
 use Rattle.std.proofs.lemmas.List.{drop-take, drop-append-le}
 use Rattle.std.specs.Option.{option_map}

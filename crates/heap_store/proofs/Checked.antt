@@ -11,7 +11,7 @@ use Rattle.heap_store.specs.Rows.{found_in, stored, have_parent}
 use Rattle.heap_store.specs.Held.{held}
 use Rattle.heap_store.specs.Checked.{addition, if_childless, removal}
 use Rattle.heap_store.specs.declared.row.Found.{Found}
-use Rattle.heap_store.specs.declared.store.HeapStore.{HeapStore}
+use Rattle.heap_store.specs.declared.heap.HeapStore.{HeapStore}
 use Rattle.heap_store.proofs.Files.{lookup_files, children_files}
 
 -- the contents that a change gives, if the checks let it through

@@ -10,7 +10,7 @@ use Rattle.heap_store.specs.Rows.{taken, holding}
 use Rattle.heap_store.specs.Held.{held, held_sound}
 use Rattle.heap_store.specs.declared.memory.Memory.{Memory}
 use Rattle.heap_store.specs.declared.row.Row.{Row}
-use Rattle.heap_store.specs.declared.store.HeapStore.{HeapStore}
+use Rattle.heap_store.specs.declared.heap.HeapStore.{HeapStore}
 use Rattle.heap_store.proofs.Files.{count_files, total_files}
 
 pub count_is : (s : HeapStore) → length (held s).files ≡ vec_len s.memory.rows

@@ -11,7 +11,7 @@ use Rattle.heap_store.specs.Checked.{if_childless, removal}
 use Rattle.heap_store.specs.declared.memory.Memory.{Memory}
 use Rattle.heap_store.specs.declared.row.Row.{Row}
 use Rattle.heap_store.specs.declared.row.Found.{Found}
-use Rattle.heap_store.specs.declared.store.HeapStore.{HeapStore}
+use Rattle.heap_store.specs.declared.heap.HeapStore.{HeapStore}
 use Rattle.heap_store.proofs.Changed.{files_removed}
 use Rattle.heap_store.proofs.Checked.{shrunk, removal_done}
 use Rattle.heap_store.proofs.Files.{IsThere, is_there}

@@ -9,7 +9,7 @@ use Rattle.store.specs.declared.fault.StoreFault.{StoreFault}
 use Rattle.store.specs.declared.fault.StoreFault.TheVariants.{InvalidDataset, NumberTaken, InvalidParent, Full, Absent, HasChildren}
 use Rattle.heap_store.specs.Rows.{found_in, have_parent}
 use Rattle.heap_store.specs.declared.row.Found.{Found}
-use Rattle.heap_store.specs.declared.store.HeapStore.{HeapStore}
+use Rattle.heap_store.specs.declared.heap.HeapStore.{HeapStore}
 
 -- whether a file may be added
 abbrev pub addition : ℕ → File → Contents → Result (Unit {0}) StoreFault

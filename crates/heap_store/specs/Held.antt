@@ -4,7 +4,7 @@ use Rattle.store.specs.Contents.{Contents}
 use Rattle.store.specs.Sound.{Sound}
 use Rattle.store.specs.SoundProp.{sound_from}
 use Rattle.heap_store.specs.Rows.{holding}
-use Rattle.heap_store.specs.declared.store.HeapStore.{HeapStore}
+use Rattle.heap_store.specs.declared.heap.HeapStore.{HeapStore}
 
 abbrev pub held : HeapStore → Contents
 held s = holding s.capacity s.limit (vec_items s.memory.rows) (vec_items s.memory.bytes)

@@ -1,9 +1,9 @@
 -- What comes of making a heap store.
 use Rattle.std.specs.Prelude.{◌≡◌, ℕ, Bool, true, false, ◌&&◌, Ok, Err, Result, nat_le}
 use Rattle.store.specs.Sound.{max_files, max_capacity}
-use Rattle.heap_store.specs.declared.store.HeapStore.{HeapStore}
-use Rattle.heap_store.specs.declared.store.make.NoStore.{NoStore}
-use Rattle.heap_store.specs.declared.store.make.NoStore.TheVariants.{OutOfMemory, WrongSize}
+use Rattle.heap_store.specs.declared.heap.HeapStore.{HeapStore}
+use Rattle.heap_store.specs.declared.heap.make.NoStore.{NoStore}
+use Rattle.heap_store.specs.declared.heap.make.NoStore.TheVariants.{OutOfMemory, WrongSize}
 use Rattle.heap_store.specs.Held.{held, empty}
 
 -- a store may have these sizes

@@ -1,9 +1,9 @@
 //! A writing store over the heap. It takes all its memory when it is made, so that it never wants for any later.
 #![tactic(auto)]
 
+pub mod heap;
 mod limits;
 mod memory;
 mod row;
 mod rows;
 mod splice;
-pub mod store;

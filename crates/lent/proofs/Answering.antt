@@ -1,27 +1,25 @@
 -- What the questions answer, over plain lists.
-use Rattle.std.proofs.Common.{◌≡◌, ℕ, zero, suc, ◌+◌, ◌-◌, ◌<◌, ◌≤◌, min, Bool, true, false, cond, not, ◌&&◌, ◌||◌, eqb, ltb, ◌⊎◌, List, [], ◌∷◌, map, length, get_or, take, drop, Some, None, Ok, Err, Option, Result, sym, refl, ap, ◌∙◌, subst, inl, inr, ⊎_elim, add-one, arith, length-drop, length-take, length-take-le, drop-cons, get_or-take, drop-drop}
-use native.Mathlib.Nat.{sub-zero, min-le_left}
-use lib.Seq.{take-nil, drop-nil}
+use Rattle.std.proofs.Common.{◌≡◌, ℕ, zero, suc, ◌+◌, ◌-◌, ◌<◌, ◌≤◌, Bool, true, false, not, ◌&&◌, ltb, List, [], ◌∷◌, length, get_or, take, drop, Some, None, Ok, Err, Option, Result, sym, refl, ap, ◌∙◌, subst, ⊎_elim, arith, length-drop, length-take-le, get_or-take}
+use native.Mathlib.Nat.{sub-zero}
 use Rattle.std.specs.Option.{option_map}
-use Rattle.std.proofs.lemmas.List.{get_or-map, length-map, drop_all, drop-take}
-use Rattle.std.proofs.lemmas.Bool.{cases_eq, eq-eqb, ne_eqb}
-use Rattle.byte_parts.specs.Parts.{Copied}
+use Rattle.std.proofs.lemmas.List.{get_or-map}
+use Rattle.std.proofs.lemmas.Bool.{cases_eq}
 use Rattle.store.specs.declared.fault.StoreFault.{StoreFault}
 use Rattle.store.specs.declared.fault.StoreFault.TheVariants.{InvalidDataset, NumberTaken, InvalidParent, Full, Absent, HasChildren}
 use Rattle.store.specs.declared.info.FileInfo.{FileInfo}
 use Rattle.store.specs.Checks.{provided}
-use Rattle.store.specs.Contents.{File, Entry, Contents, total, lookup, next_above}
+use Rattle.store.specs.Contents.{File, Entry, Contents, lookup, next_above}
 use Rattle.store.specs.Infos.{described, info_of}
 use Rattle.store.specs.Sound.{Ascending, is_parent}
 use Rattle.store.specs.Changes.{added, removed, inserted, without, with_files, is_absent, has_children, is_number, legal_length, has_room}
 use Rattle.store.specs.Changing.{result_of}
 use Rattle.store.proofs.Lookups.{lookup_here, lookup_past}
 use Rattle.table.specs.declared.place.Place.{Place}
-use Rattle.table.specs.Found.{StandsAt, Missing, Ranked}
+use Rattle.table.specs.Found.{StandsAt, Ranked}
 use Rattle.lent.specs.Asked.{adding_checks}
 use Rattle.table.specs.Tables.{file_at, entry_at, files_in, numbers_in, ends_in, Rising, Within}
 use Rattle.table.proofs.Parts.{take_length_le}
-use Rattle.table.proofs.Columns.{numbers_getD, numbers_length, lookup_at, lookup_missing, next_at, next_none, rising_from}
+use Rattle.table.proofs.Columns.{numbers_getD, lookup_at, next_at, next_none, rising_from}
 
 -- code shows the rows in use as a part from 0 on
 pub rising_rows : (bs : List ℕ) (ps : List Place) (count : ℕ) → Ascending 0 (files_in bs (take count ps)) → Rising (numbers_in (take (count - 0) ps))

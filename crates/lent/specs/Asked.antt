@@ -1,5 +1,5 @@
 -- What the questions of lent memory find.
-use Rattle.std.specs.Prelude.{◌≡◌, ℕ, ◌+◌, ◌<◌, ◌≤◌, false, ◌&&◌, List, length, take, Some, None, Ok, Err, Result, nat_lt}
+use Rattle.std.specs.Prelude.{◌≡◌, ℕ, ◌+◌, ◌≤◌, false, ◌&&◌, List, length, take, Some, None, Ok, Err, Result, nat_lt}
 use Rattle.store.specs.declared.fault.StoreFault.{StoreFault}
 use Rattle.store.specs.declared.fault.StoreFault.TheVariants.{InvalidDataset, NumberTaken, InvalidParent, Full}
 use Rattle.store.specs.Checks.{provided}
@@ -10,7 +10,7 @@ use Rattle.lent.specs.declared.memory.Memory.{Memory}
 use Rattle.table.specs.declared.place.Place.{Place}
 use Rattle.lent.specs.Kept.{held_in}
 use Rattle.table.specs.Found.{StandsAt}
-use Rattle.table.specs.Tables.{file_at, numbers_in}
+use Rattle.table.specs.Tables.{file_at}
 
 -- the rows in use
 abbrev pub rows : Memory → List Place

@@ -1,5 +1,5 @@
 -- What holds of lent memory between two calls.
-use Rattle.std.specs.Prelude.{◌≡◌, ℕ, ◌≤◌, length, take}
+use Rattle.std.specs.Prelude.{◌≡◌, ◌≤◌, length, take}
 use Rattle.store.specs.Contents.{Contents, total}
 use Rattle.store.specs.Sound.{Sound}
 use Rattle.lent.specs.declared.memory.Memory.{Memory}

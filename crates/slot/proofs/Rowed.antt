@@ -1,17 +1,16 @@
 -- Rows and files after one is put in or taken out, over plain lists.
-use Rattle.std.proofs.Common.{◌≡◌, ℕ, zero, suc, ◌+◌, ◌-◌, ◌<◌, ◌≤◌, cond, eqb, ltb, ◌⊎◌, List, [], ◌∷◌, ◌++◌, map, length, get_or, take, drop, sym, refl, ap, ◌∙◌, subst, inl, inr, ⊎_elim, append_assoc, arith, length-append, length-drop, length-take, length-take-le, take-take, drop-drop, take_at, drop_at, rules}
-use Rattle.std.specs.List.{insert, remove}
-use Rattle.std.proofs.lemmas.List.Edits.{length-insert, get_or-insert_below, get_or-insert_at, get_or-insert_above, length-remove, get_or-remove_below, get_or-remove_above}
+use Rattle.std.proofs.Common.{◌≡◌, ℕ, zero, suc, ◌+◌, ◌-◌, ◌<◌, ◌≤◌, ltb, ◌⊎◌, List, [], ◌∷◌, ◌++◌, map, length, get_or, take, drop, sym, refl, ap, ◌∙◌, ⊎_elim, append_assoc, arith, length-append, length-drop, length-take-le, take-take, drop-drop, take_at, drop_at, rules}
+use Rattle.std.specs.List.{insert}
+use Rattle.std.proofs.lemmas.List.Edits.{length-insert, get_or-insert_below, get_or-insert_at, get_or-insert_above}
 use Rattle.std.proofs.lemmas.List.{places, map-append, take-map, drop-map, drop-take, get_or-map, length-map, drop_more}
-use Rattle.std.proofs.lemmas.Bool.{lt-ltb, le-ltb, cond-true, cond-false, cases_order, cases_lt}
-use Rattle.store.specs.Contents.{File, Entry, total}
-use Rattle.store.specs.Sound.{Ascending}
+use Rattle.std.proofs.lemmas.Bool.{lt-ltb, le-ltb, cond-true, cond-false, cases_order}
+use Rattle.store.specs.Contents.{File, Entry}
 use Rattle.store.specs.Changes.{without}
 use Rattle.store.specs.Changes as changes
 use Rattle.table.specs.declared.place.Place.{Place}
 use Rattle.table.specs.Areas.{written}
 use Rattle.table.specs.Rows.{rows_with, rows_without}
-use Rattle.table.specs.Tables.{file_at, entry_at, files_in, numbers_in, starts_in, ends_in, Within}
+use Rattle.table.specs.Tables.{entry_at, files_in, numbers_in, starts_in, ends_in, Within}
 use Rattle.slot.proofs.Turning.{turned_up, turned_down}
 
 -- bytes that are written at t leave what lies before and behind

@@ -1,5 +1,5 @@
 -- Memory with no file.
-use Rattle.std.proofs.Common.{◌≡◌, ℕ, ◌+◌, ◌*◌, ◌%◌, ◌<◌, ◌≤◌, true, ◌&&◌, eqb, leb, List, [], ◌∷◌, length, get_or, take, sym, refl, ap, ◌∙◌, subst, arith}
+use Rattle.std.proofs.Common.{◌≡◌, ℕ, ◌*◌, ◌<◌, ◌≤◌, true, ◌&&◌, eqb, leb, List, [], length, get_or, sym, ap, ◌∙◌, subst, arith}
 use Rattle.std.proofs.lemmas.List.{length-map}
 use Rattle.std.proofs.lemmas.Bool.{and_parts, leb-true, eqb-true}
 use Rattle.byte_parts.proofs.Cutting.{none_some}
@@ -9,7 +9,7 @@ use Rattle.lent.specs.declared.memory.Memory.{Memory}
 use Rattle.table.specs.declared.place.Place.{Place}
 use Rattle.lent.specs.Kept.{held_in}
 use Rattle.table.specs.Tables.{held, starts_in}
-use Rattle.slot.specs.Slots.{Slotted, slots, suits, empty}
+use Rattle.slot.specs.Slots.{Slotted, suits, empty}
 
 pub starts_length : (ps : List Place) → length (starts_in ps) ≡ length ps
 starts_length ps = length-map ps (λ (q : Place). q.start)
