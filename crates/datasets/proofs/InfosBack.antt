@@ -1,6 +1,6 @@
 -- What is written is read back: datasets.
 use Rattle.std.proofs.Common.{◌≡◌, ℕ, Bool, true, false, ltb, leb, List, [], ◌∷◌, length, drop, Some, None, sym, refl, ap, ◌∙◌, arith}
-use Rattle.std.specs.List.{AllByRecursion as All}
+use Rattle.std.specs.List.{AllByRecursion}
 use Rattle.std.proofs.lemmas.Bool.{leb-true, ltb-true, le-leb, and_parts, cond-true}
 use Rattle.byte_parts.specs.Numbers.{le, value}
 use Rattle.byte_parts.proofs.LittleEndian.{value_le}
@@ -25,7 +25,7 @@ use Rattle.datasets.specs.declared.info.StorageKind.TheVariants.{Programs, Handb
 use Rattle.datasets.proofs.Lengths.{length_object_info}
 
 -- legal units may stand in a string
-units_fit : (us : List ℕ) → all legal_unit us ≡ true → All UnitFits us
+units_fit : (us : List ℕ) → all legal_unit us ≡ true → AllByRecursion UnitFits us
 units_fit [] h = tt
 units_fit (u ∷ us) h =
     let p = and_parts (legal_unit u) (all legal_unit us) h in
@@ -34,7 +34,7 @@ units_fit (u ∷ us) h =
     let low = leb-true 0x0020 u a.0 in
     ((omega arith, ltb-true u 65536 b.0), units_fit us p.1)
 
-pub name_fits : (n : Name) → All UnitFits (units_of n)
+pub name_fits : (n : Name) → AllByRecursion UnitFits (units_of n)
 unfolding legal_name
 name_fits n =
     let a = and_parts (leb 1 (length (units_of n))) _ (units_legal n) in

@@ -1,6 +1,6 @@
 -- What is written is read back: containers, arrays and strings.
 use Rattle.std.proofs.Common.{◌≡◌, ℕ, zero, suc, ◌+◌, ◌-◌, ◌*◌, ◌/◌, ◌%◌, ◌^◌, ◌<◌, ◌≤◌, Bool, true, false, cond, ◌&&◌, eqb, leb, List, [], ◌∷◌, ◌++◌, length, take, drop, Some, None, Option, sym, refl, ap, ◌∙◌, subst, append_assoc, arith}
-use Rattle.std.specs.List.{AllByRecursion as All}
+use Rattle.std.specs.List.{AllByRecursion}
 use Rattle.std.proofs.lemmas.List.{take_at, drop_at, drop-drop, take-append-drop, length-drop, length-take-le}
 use Rattle.std.proofs.ByRecursion.{All-take, All-drop}
 use Rattle.std.proofs.lemmas.Bool.{eq-eqb, ne_eqb, eqb-true, le-leb, leb-true, and_from, and_parts, cond-true, cond-false}
@@ -52,7 +52,7 @@ pub heads_join : HeadsJoin
 heads_join code transaction payload = head_joins data_type code transaction payload
 
 -- numbers of k bytes
-pub numbers_back : (k : ℕ) (ns rest : List ℕ) → All (λ n. n < 256 ^ k) ns → number_list k (length ns) (numbers k ns ++ rest) ≡ ns
+pub numbers_back : (k : ℕ) (ns rest : List ℕ) → AllByRecursion (λ n. n < 256 ^ k) ns → number_list k (length ns) (numbers k ns ++ rest) ≡ ns
 numbers_back k [] rest h = refl
 numbers_back k (n ∷ ns) rest h =
     let e = append_assoc (le k n) (numbers k ns) rest in
@@ -63,7 +63,7 @@ append_none : (l : List ℕ) → l ++ [] ≡ l
 append_none [] = refl
 append_none (x ∷ l) = ap (λ m. x ∷ m) (append_none l)
 
-pub list_back : (k : ℕ) (ns : List ℕ) → All (λ n. n < 256 ^ k) ns → number_list k (length ns) (numbers k ns) ≡ ns
+pub list_back : (k : ℕ) (ns : List ℕ) → AllByRecursion (λ n. n < 256 ^ k) ns → number_list k (length ns) (numbers k ns) ≡ ns
 list_back k ns h = ap (number_list k (length ns)) (sym (append_none (numbers k ns))) ∙ numbers_back k ns [] h
 
 pub array_back : ArraysReadBack
@@ -96,7 +96,7 @@ response_back r f =
 abbrev at_places : List ℕ → List ℕ
 at_places bs = number_at 4 12 bs ∷ number_at 4 16 bs ∷ number_at 4 20 bs ∷ number_at 4 24 bs ∷ number_at 4 28 bs ∷ []
 
-five_back : (code transaction : ℕ) (ps : List ℕ) → All (λ p. p < 2 ^ 32) ps → length ps ≤ 5 → at_places (container command_type code transaction (numbers 4 ps)) ≡ five ps
+five_back : (code transaction : ℕ) (ps : List ℕ) → AllByRecursion (λ p. p < 2 ^ 32) ps → length ps ≤ 5 → at_places (container command_type code transaction (numbers 4 ps)) ≡ five ps
 unfolding container
 five_back code transaction [] h l = refl
 five_back code transaction (a ∷ []) h l = λ i. value_le 4 a h.0 i ∷ 0 ∷ 0 ∷ 0 ∷ 0 ∷ []
@@ -106,7 +106,7 @@ five_back code transaction (a ∷ b ∷ c ∷ d ∷ []) h l = λ i. value_le 4 a
 five_back code transaction (a ∷ b ∷ c ∷ d ∷ e ∷ []) h l = λ i. value_le 4 a h.0 i ∷ value_le 4 b h.1.0 i ∷ value_le 4 c h.1.1.0 i ∷ value_le 4 d h.1.1.1.0 i ∷ value_le 4 e h.1.1.1.1.0 i ∷ []
 five_back code transaction (a ∷ b ∷ c ∷ d ∷ e ∷ f ∷ ps) h l = absurd (omega arith)
 
-command_back : (code transaction : ℕ) (ps : List ℕ) → code < 2 ^ 16 → transaction < 2 ^ 32 → All (λ p. p < 2 ^ 32) ps → length ps ≤ 5 → command_in (container command_type code transaction (numbers 4 ps)) ≡ Some (record { code = code; transaction = transaction; parameters = five ps })
+command_back : (code transaction : ℕ) (ps : List ℕ) → code < 2 ^ 16 → transaction < 2 ^ 32 → AllByRecursion (λ p. p < 2 ^ 32) ps → length ps ≤ 5 → command_in (container command_type code transaction (numbers 4 ps)) ≡ Some (record { code = code; transaction = transaction; parameters = five ps })
 unfolding command_in
 command_back code transaction ps h k p l =
     let bs = container command_type code transaction (numbers 4 ps) in
@@ -169,7 +169,7 @@ data_only code transaction bs payload h e =
 pub data_law : DataReadsBack
 data_law = record { back = data_back; only = data_only }
 
-numbers_fit : (n : ℕ) (bs : List ℕ) → Bytes bs → length bs ≡ 4 * n → All (λ p. p < 2 ^ 32) (number_list 4 n bs)
+numbers_fit : (n : ℕ) (bs : List ℕ) → Bytes bs → length bs ≡ 4 * n → AllByRecursion (λ p. p < 2 ^ 32) (number_list 4 n bs)
 numbers_fit zero bs h l = tt
 numbers_fit (suc n) bs h l =
     let d = length-drop 4 bs in
@@ -179,7 +179,7 @@ numbers_fit (suc n) bs h l =
 
 -- the payload of a container whose length is a multiple of 4 is numbers
 module _ (bs : List ℕ) (h : Bytes bs) (l : 12 ≤ length bs) (s : length bs ≤ 32) (m : length bs % 4 ≡ 0) where
-  pub all_fit : All (λ p. p < 2 ^ 32) (number_list 4 ((length bs - 12) / 4) (drop 12 bs))
+  pub all_fit : AllByRecursion (λ p. p < 2 ^ 32) (number_list 4 ((length bs - 12) / 4) (drop 12 bs))
   all_fit =
       let d = length-drop 12 bs in
       numbers_fit ((length bs - 12) / 4) (drop 12 bs) (All-drop (λ b. b < 256) 12 bs h) (omega arith)
@@ -239,14 +239,14 @@ commands_law = record { back = command_back; only = command_only }
 unit_value : (u : ℕ) → u < 2 ^ 16 → u % 256 + 256 * (u / 256 % 256) ≡ u
 unit_value u h = omega arith
 
-closed_back : (us rest : List ℕ) → All UnitFits us → closed_units (length us) ((unit_bytes us ++ (0 ∷ 0 ∷ [])) ++ rest) ≡ Some (record { units = us; rest = rest })
+closed_back : (us rest : List ℕ) → AllByRecursion UnitFits us → closed_units (length us) ((unit_bytes us ++ (0 ∷ 0 ∷ [])) ++ rest) ≡ Some (record { units = us; rest = rest })
 closed_back [] rest h = refl
 closed_back (u ∷ us) rest h =
     let e = unit_value u h.0.1 in
     cond-false _ _ _ (ne_eqb (u % 256 + 256 * (u / 256 % 256)) 0 (λ z. let p = h.0.0 in omega (arith, e)))
     ∙ (λ i. with_unit (e i) (closed_back us rest h.1 i))
 
-pub string_back : (us rest : List ℕ) → All UnitFits us → string_in (string us ++ rest) ≡ Some (record { units = us; rest = rest })
+pub string_back : (us rest : List ℕ) → AllByRecursion UnitFits us → string_in (string us ++ rest) ≡ Some (record { units = us; rest = rest })
 string_back [] rest h = refl
 string_back (u ∷ us) rest h = closed_back (u ∷ us) rest h
 

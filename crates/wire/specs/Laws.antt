@@ -1,6 +1,6 @@
 -- What is written is read back: each encoding determines what it encodes.
 use Rattle.std.specs.Prelude.{◌≡◌, ℕ, ◌+◌, ◌-◌, ◌^◌, ◌<◌, ◌≤◌, List, ◌++◌, length, replicate, Some}
-use Rattle.std.specs.List.{AllByRecursion as All}
+use Rattle.std.specs.List.{AllByRecursion}
 use Rattle.byte_parts.specs.Numbers.{Bytes}
 use Rattle.wire.specs.Containers.{container, command_type, command_in, payload_in, data_container, data_type, head, numbers, response}
 use Rattle.wire.specs.Readers.{Response, response_in, array_in}
@@ -13,7 +13,7 @@ UnitFits u = (0 < u) × (u < 2 ^ 16)
 
 -- the reader of strings takes each string off the front, whatever lies behind it, and takes nothing else
 pub record StringsReadBack : Type 0 where
-  pub back : (us rest : List ℕ) → All UnitFits us → string_in (string us ++ rest) ≡ Some (record { units = us; rest = rest })
+  pub back : (us rest : List ℕ) → AllByRecursion UnitFits us → string_in (string us ++ rest) ≡ Some (record { units = us; rest = rest })
   pub only : (bs : List ℕ) (r : Read) → Bytes bs → string_in bs ≡ Some r → bs ≡ string r.units ++ r.rest
 
 -- the parameters of a command, the missing ones 0
@@ -30,7 +30,7 @@ pub record Carried (bs : List ℕ) (c : Command) : Type 0 where
 -- the reader of commands takes each command container, and nothing else
 pub record CommandsReadBack : Type 0 where
   pub back :
-      (code transaction : ℕ) (ps : List ℕ) → code < 2 ^ 16 → transaction < 2 ^ 32 → All (λ p. p < 2 ^ 32) ps → length ps ≤ 5
+      (code transaction : ℕ) (ps : List ℕ) → code < 2 ^ 16 → transaction < 2 ^ 32 → AllByRecursion (λ p. p < 2 ^ 32) ps → length ps ≤ 5
       → command_in (container command_type code transaction (numbers 4 ps)) ≡ Some (record { code = code; transaction = transaction; parameters = five ps })
   pub only : (bs : List ℕ) (c : Command) → Bytes bs → command_in bs ≡ Some c → Carried bs c
 
@@ -52,7 +52,7 @@ HeadsJoin =
 pub record ResponseFits (r : Response) : Type 0 where
   pub code : r.code < 2 ^ 16
   pub transaction : r.transaction < 2 ^ 32
-  pub parameters : All (λ p. p < 2 ^ 32) r.parameters
+  pub parameters : AllByRecursion (λ p. p < 2 ^ 32) r.parameters
   pub few : length r.parameters ≤ 5
 
 -- its bytes
@@ -68,4 +68,4 @@ pub record ResponsesReadBack : Type 0 where
 -- arrays of numbers of k bytes
 abbrev pub ArraysReadBack : Type 0
 ArraysReadBack =
-    (k : ℕ) (ns : List ℕ) → All (λ n. n < 256 ^ k) ns → length ns < 2 ^ 32 → array_in k (array k ns) ≡ Some ns
+    (k : ℕ) (ns : List ℕ) → AllByRecursion (λ n. n < 256 ^ k) ns → length ns < 2 ^ 32 → array_in k (array k ns) ≡ Some ns
