@@ -1,17 +1,16 @@
 -- How the reader of an ObjectInfo comes to its answer.
-use Rattle.std.proofs.Common.{◌≡◌, ℕ, suc, ◌-◌, ◌<◌, ◌≤◌, Bool, true, false, cond, eqb, leb, List, [], ◌∷◌, length, take, drop, Some, None, Option, sym, refl, ap, ◌∙◌, arith}
+use Rattle.std.proofs.Common.{◌≡◌, ℕ, suc, ◌-◌, ◌<◌, Bool, true, false, cond, leb, List, length, take, drop, Some, None, Option, sym, refl, ap, ◌∙◌, arith}
 use Rattle.std.specs.Option.{option_map}
 use Rattle.std.proofs.lemmas.Bool.{cond-true, cond-false}
 use Rattle.byte_parts.specs.Parts.{cut_part}
 use Rattle.byte_parts.proofs.Cutting.{none_some, some_same, through}
-use Rattle.object.specs.Names.{units_in, named, named_some, name_in}
+use Rattle.object.specs.Names.{units_in, named_some, name_in}
 use Rattle.object.specs.declared.name.Name.{Name}
 use Rattle.object.specs.declared.protection.Protection.{Protection}
 use Rattle.wire.specs.Containers.{number_at}
 use Rattle.wire.specs.Strings.{Read, string_in}
 use Rattle.wire.specs.Texts.{read_parts}
 use Rattle.datasets.specs.ObjectInfos.{rest_is, are_strings, protection_at, info_from, info_named, object_info_in}
-use Rattle.datasets.specs.declared.info.ObjectInfo.{ObjectInfo}
 
 -- a string that was read
 pub record Got (o : Option Read) (us : Option (List ℕ)) (rest : List ℕ) : Type 0 where

@@ -1,11 +1,11 @@
 -- What is written is read back: datasets.
-use Rattle.std.proofs.Common.{◌≡◌, ℕ, ◌+◌, ◌*◌, ◌^◌, ◌<◌, ◌≤◌, Bool, true, false, cond, ◌&&◌, ltb, leb, List, [], ◌∷◌, ◌++◌, length, drop, Some, None, Option, sym, refl, ap, ◌∙◌, arith}
+use Rattle.std.proofs.Common.{◌≡◌, ℕ, Bool, true, false, ltb, leb, List, [], ◌∷◌, length, drop, Some, None, sym, refl, ap, ◌∙◌, arith}
 use Rattle.std.specs.List.{AllByRecursion}
-use Rattle.std.proofs.lemmas.Bool.{leb-true, ltb-true, le-leb, and_parts, and_from, cond-true}
+use Rattle.std.proofs.lemmas.Bool.{leb-true, ltb-true, le-leb, and_parts, cond-true}
 use Rattle.byte_parts.specs.Numbers.{le, value}
 use Rattle.byte_parts.proofs.LittleEndian.{value_le}
 use Rattle.object.specs.Legal.{legal_unit, all, legal_name}
-use Rattle.object.specs.Names.{units_of, named}
+use Rattle.object.specs.Names.{units_of}
 use Rattle.object.specs.Protections.{protection_number, protection_of}
 use Rattle.object.specs.declared.name.Name.{Name}
 use Rattle.object.specs.declared.protection.Protection.{Protection}
@@ -13,13 +13,12 @@ use Rattle.object.specs.declared.protection.Protection.TheVariants.{Unprotected,
 use Rattle.object.proofs.Making.{accepted}
 use Rattle.object.proofs.Stored.{units_legal}
 use Rattle.wire.specs.Laws.{UnitFits}
-use Rattle.wire.specs.Strings.{string, string_in}
+use Rattle.wire.specs.Strings.{string_in}
 use Rattle.wire.proofs.ReadBack.{string_back}
-use Rattle.datasets.specs.Laws.{ObjectInfoFits, ObjectInfosReadBack, StorageInfoFits, StorageInfosReadBack}
-use Rattle.datasets.specs.ObjectInfos.{object_info, protection_at, info_from, info_named, object_info_in}
-use Rattle.datasets.specs.Readers.{kind_of, writable_of, storage_from, storage_info_in}
+use Rattle.datasets.specs.Laws.{ObjectInfosReadBack, StorageInfosReadBack}
+use Rattle.datasets.specs.ObjectInfos.{object_info, info_from, info_named, object_info_in}
+use Rattle.datasets.specs.Readers.{storage_from, storage_info_in}
 use Rattle.datasets.specs.StorageInfos.{storage_info}
-use Rattle.datasets.specs.declared.info.ObjectInfo.{ObjectInfo}
 use Rattle.datasets.specs.declared.info.StorageInfo.{StorageInfo}
 use Rattle.datasets.specs.declared.info.StorageKind.{StorageKind}
 use Rattle.datasets.specs.declared.info.StorageKind.TheVariants.{Programs, Handbook}

@@ -1,12 +1,12 @@
 -- The lengths of the datasets.
-use Rattle.std.proofs.Common.{◌≡◌, ◌+◌, ◌*◌, ◌≤◌, [], ◌∷◌, ◌++◌, length, refl, ap, ◌∙◌, arith}
+use Rattle.std.proofs.Common.{◌≡◌, ◌+◌, ◌*◌, [], ◌∷◌, length, refl, arith}
 use Rattle.std.proofs.lemmas.List.{length-append}
 use Rattle.object.specs.Names.{units_of}
 use Rattle.object.proofs.Stored.{units_long}
 use Rattle.wire.specs.Strings.{string, array}
 use Rattle.wire.proofs.Puts.{length_string}
 use Rattle.datasets.specs.DeviceInfos.{device_info}
-use Rattle.datasets.specs.ObjectInfos.{object_fields, object_info}
+use Rattle.datasets.specs.ObjectInfos.{object_info}
 use Rattle.datasets.specs.StorageInfos.{storage_info}
 use Rattle.datasets.specs.declared.info.ObjectInfo.{ObjectInfo}
 use Rattle.datasets.specs.declared.info.StorageInfo.{StorageInfo}

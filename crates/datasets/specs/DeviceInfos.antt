@@ -1,5 +1,5 @@
 -- The DeviceInfo dataset.
-use Rattle.std.specs.Prelude.{ℕ, List, [], ◌∷◌, ◌++◌, map, codes}
+use Rattle.std.specs.Prelude.{ℕ, List, [], ◌++◌, map, codes}
 use Rattle.byte_parts.specs.Numbers.{le}
 use Rattle.object.specs.Formats.{format_number, formats}
 use Rattle.wire.specs.Operations.{operation_codes}

@@ -1,5 +1,5 @@
 -- The StorageInfo dataset.
-use Rattle.std.specs.Prelude.{ℕ, Bool, cond, List, [], ◌∷◌, ◌++◌, codes}
+use Rattle.std.specs.Prelude.{ℕ, Bool, cond, List, [], ◌++◌, codes}
 use Rattle.byte_parts.specs.Numbers.{le}
 use Rattle.wire.specs.Strings.{string}
 use Rattle.datasets.specs.declared.info.StorageInfo.{StorageInfo}

@@ -221,7 +221,10 @@ fn object_infos(rt: HostRuntime) {
                 assert_eq!(rt; info.format != 0x3004, place == 4 || place == 5);
                 assert_eq!(rt; info.size != 258, place >= 8 && place < 12);
                 assert_eq!(rt; info.parent != 0x8000_0001, place >= 38 && place < 42);
-                assert_eq!(rt; info.name.units() != &[0x41], place == 53 || place == 54);
+                assert_eq!(rt;
+                    info.name.units() != [0x41].as_slice(),
+                    place == 53 || place == 54
+                );
             }
             Err(fault) => {
                 assert!(rt; is_bound(place));

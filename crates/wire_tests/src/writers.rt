@@ -142,7 +142,9 @@ fn responses(rt: HostRuntime) {
         write_response(&mut buffer, 0x201e, 7, &Parameters::one(3)),
         16
     );
-    assert!(rt; &buffer[0..16] == &[16, 0, 0, 0, 3, 0, 0x1e, 0x20, 7, 0, 0, 0, 3, 0, 0, 0]);
+    assert!(rt;
+        &buffer[0..16] == [16, 0, 0, 0, 3, 0, 0x1e, 0x20, 7, 0, 0, 0, 3, 0, 0, 0].as_slice()
+    );
     assert!(rt; is_untouched(&buffer, 16));
     assert_eq!(rt;
         write_response(&mut buffer, 0x2001, 8, &Parameters::three(1, 2, 3)),
