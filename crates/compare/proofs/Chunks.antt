@@ -1,5 +1,5 @@
 -- Lists compared chunk by chunk.
-use Rattle.std.proofs.Common.{◌≡◌, ℕ, zero, suc, ◌+◌, ◌-◌, ◌≤◌, Bool, List, [], ◌∷◌, ◌++◌, length, take, drop, Decides, sym, refl, ap, ◌∙◌, arith, length-drop, take-append-drop, take_all}
+use Rattle.std.proofs.Common.{◌≡◌, ℕ, zero, suc, ◌+◌, ◌-◌, ◌≤◌, Bool, List, [], ◌∷◌, ◌++◌, length, take, drop, Decides, sym, ap, ◌∙◌, arith, length-drop, take-append-drop, take_all}
 use lib.Seq.{take-append_seam}
 use Rattle.byte_parts.specs.Parts.{over}
 

@@ -2,9 +2,8 @@
 use Rattle.std.proofs.Common.{◌≡◌, ℕ, suc, ◌+◌, ◌<◌, ◌≤◌, Bool, true, false, cond, ◌&&◌, ◌||◌, eqb, List, [], ◌∷◌, ◌++◌, length, take, set, Some, None, Option, sym, refl, ap, ◌∙◌, subst, append_assoc, append-nil, arith, length-set}
 use Rattle.std.specs.Option.{option_map}
 use Rattle.std.proofs.lemmas.List.{length-append, take_more_set}
-use Rattle.store.specs.Contents.{File, Entry, lookup, next_above}
+use Rattle.store.specs.Contents.{File, Entry}
 use Rattle.store.specs.Infos.{info_of, described}
-use Rattle.store.specs.Sound.{Ascending}
 use Rattle.object.specs.Formats.{is_folder}
 use Rattle.store.specs.Checks.{provided}
 use Rattle.protocol.specs.declared.fault.OperationFault.TheVariants.{InvalidStorage, InvalidHandle, FormatNotSupported, InvalidParent}
@@ -12,7 +11,7 @@ use Rattle.protocol.specs.Checks.{present}
 use Rattle.protocol.specs.Looking.{handles_on, handles_shown, children_shown, shows_handles, names}
 use Rattle.protocol.specs.Storages.{Storages, every_storage, root, is_storage, storage_of, number_of, object_at}
 use Rattle.looking.specs.Listings.{listed_in, told_listed, one_if, Gathered, lists, folder_listed, listing_told, shows_listing}
-use Rattle.looking.proofs.Walks.{above, above_all, none_above, Step}
+use Rattle.looking.proofs.Walks.{above, Step}
 
 pub handles_fewer : (base : ℕ) (test : File → Bool) (es : List Entry) → length (handles_on base test es) ≤ length es
 handles_fewer base test [] = omega arith

@@ -1,5 +1,5 @@
 -- From what a writer placed to what an operation that looks shows.
-use Rattle.std.proofs.Common.{◌≡◌, ℕ, Bool, true, false, cond, not, eqb, leb, List, [], length, Some, None, Ok, Err, Option, Result, sym, refl, ap, ◌∙◌}
+use Rattle.std.proofs.Common.{◌≡◌, ℕ, Bool, true, false, cond, not, eqb, leb, List, length, Some, None, Ok, Err, Option, Result, sym, refl, ap, ◌∙◌}
 use Rattle.byte_parts.specs.Parts.{over}
 use Rattle.store.specs.Contents.{File}
 use Rattle.store.specs.Checks.{provided}

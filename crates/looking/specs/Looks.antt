@@ -1,6 +1,5 @@
 -- What an operation that looks writes, and what it hands on.
-use Rattle.std.specs.Prelude.{ℕ, false, cond, not, List, [], length, Ok, Err, Option, Result, ◌==◌, nat_le}
-use Rattle.std.specs.Option.{option_map}
+use Rattle.std.specs.Prelude.{ℕ, false, cond, not, List, [], length, Ok, Err, Result, ◌==◌, nat_le}
 use Rattle.byte_parts.specs.Parts.{over}
 use Rattle.store.specs.Checks.{provided}
 use Rattle.store.specs.Infos as infos
@@ -15,7 +14,7 @@ use Rattle.protocol.specs.declared.fault.OperationFault.{OperationFault}
 use Rattle.protocol.specs.declared.fault.OperationFault.TheVariants.{GeneralError, InvalidStorage, InvalidHandle}
 use Rattle.protocol.specs.Checks.{present}
 use Rattle.protocol.specs.Faults.{of_dataset}
-use Rattle.protocol.specs.Looking.{Shown, storage_info_of, info_of, parent_handle}
+use Rattle.protocol.specs.Looking.{Shown, storage_info_of, parent_handle}
 use Rattle.protocol.specs.Machine.{data_of}
 use Rattle.protocol.specs.Storages.{Storages, first_storage, is_storage, storage_of, object_at}
 use Rattle.looking.specs.Outcomes.{ShownLength}

@@ -1,5 +1,5 @@
 -- Sample exchanges and sample bytes, shown from the definitions at a stroke.
-use Rattle.std.specs.Prelude.{◌≡◌, ℕ, ◌+◌, Bool, true, false, not, List, [], ◌∷◌, ◌++◌, map, take, replicate, is_some, Some, None, filter, Option, ◌==◌, refl}
+use Rattle.std.specs.Prelude.{◌≡◌, ℕ, true, false, not, List, [], ◌∷◌, ◌++◌, map, take, replicate, is_some, Some, None, filter, Option, ◌==◌, refl}
 use Rattle.byte_parts.specs.Numbers.{le}
 use Rattle.object.specs.Legal.{legal_name, stored_name}
 use Rattle.object.specs.Names.{named}

@@ -1,5 +1,5 @@
 -- From what the code answered and left to the outcome of an operation that acts.
-use Rattle.std.proofs.Common.{◌≡◌, ℕ, Bool, true, false, not, ◌&&◌, ◌||◌, eqb, ltb, leb, List, [], ◌∷◌, Some, None, Ok, Err, Option, Result, sym, refl, ap, ◌∙◌, arith}
+use Rattle.std.proofs.Common.{◌≡◌, ℕ, Bool, true, false, not, ◌&&◌, ◌||◌, eqb, leb, List, [], ◌∷◌, Some, None, Ok, Err, Option, Result, sym, refl, ap, ◌∙◌, arith}
 use Rattle.store.specs.Changing.{result_of, contents_after}
 use Rattle.store.specs.Checks.{provided}
 use Rattle.store.specs.Contents.{File, Contents}

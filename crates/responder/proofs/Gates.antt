@@ -4,7 +4,7 @@ use Rattle.wire.specs.declared.command.Command.{Command}
 use Rattle.protocol.specs.Storages.{Storages}
 use Rattle.protocol.specs.Machine.{State, Gate, stops, passes_closed, passes_open, spared}
 use Rattle.responder.specs.Sessions.{admission, session_at, cancel_fault}
-use Rattle.responder.specs.Replies.{Told, told_by, told_of}
+use Rattle.responder.specs.Replies.{told_by, told_of}
 
 pub spared_told : (g : Gate) (p : Storages) (c : Command) → told_of c.transaction (Err (cancel_fault (admission g))) ≡ told_by (spared g p c).reply
 spared_told (stops f s) p c = refl

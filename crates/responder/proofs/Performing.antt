@@ -1,5 +1,5 @@
 -- From an operation's own contract to what the session machine has for it.
-use Rattle.std.proofs.Common.{◌≡◌, ℕ, Bool, true, false, cond, eqb, leb, List, [], ◌∷◌, length, Some, None, Ok, Err, Option, Result, sym, refl, ap, ◌∙◌, subst, arith}
+use Rattle.std.proofs.Common.{◌≡◌, ℕ, Bool, true, false, cond, eqb, leb, List, [], ◌∷◌, length, Some, None, Ok, Err, Result, sym, refl, ap, ◌∙◌, arith}
 use Rattle.std.proofs.lemmas.Bool.{eqb-true}
 use Rattle.std.specs.List.{AllByRecursion}
 use Rattle.byte_parts.specs.Parts.{over}
@@ -12,12 +12,12 @@ use Rattle.protocol.specs.declared.fault.OperationFault.TheVariants.{GeneralErro
 use Rattle.protocol.specs.declared.session.Session.{Session}
 use Rattle.protocol.specs.Acting.{Outcome}
 use Rattle.protocol.specs.Looking.{Shown}
-use Rattle.protocol.specs.Machine.{State, Answer, Task, Row, tasks, task_in, task_of, data_of, looked, acted, refused, performed, Gate, stops, passes_closed, passes_open, served}
+use Rattle.protocol.specs.Machine.{State, Row, tasks, task_in, task_of, data_of, looked, acted, refused, Gate, stops, passes_closed, passes_open, served}
 use Rattle.protocol.specs.Storages.{Storages}
 use Rattle.responder.specs.Acts.{Acted, silent}
 use Rattle.looking.specs.Looks.{shown_in}
 use Rattle.looking.specs.Outcomes.{ShownLength, result_told}
-use Rattle.responder.specs.Replies.{Told, told_by, told_of, Performed}
+use Rattle.responder.specs.Replies.{told_of, Performed}
 use Rattle.responder.specs.Sessions.{admission, session_at}
 use Rattle.responder.specs.declared.session.Admitted.TheVariants.{WhileClosed, WhileOpen}
 use Rattle.looking.specs.declared.outcome.Done.{Done}

@@ -1,5 +1,5 @@
 -- What an operation that acts answers, and what it leaves.
-use Rattle.std.specs.Prelude.{◌≡◌, ℕ, Bool, false, not, ◌&&◌, ◌||◌, List, [], length, Some, None, Ok, Err, Option, Result, ◌==◌, nat_le, nat_lt}
+use Rattle.std.specs.Prelude.{◌≡◌, ℕ, not, ◌&&◌, ◌||◌, List, Ok, Err, Result, ◌==◌, nat_le, nat_lt}
 use Rattle.object.specs.Formats.{format_of, is_folder}
 use Rattle.store.specs.Changes.{has_room}
 use Rattle.store.specs.Checks.{provided}
@@ -16,7 +16,6 @@ use Rattle.protocol.specs.declared.session.Announcement.{Announcement}
 use Rattle.protocol.specs.declared.session.OpenSession.{OpenSession}
 use Rattle.protocol.specs.declared.session.Session.{Session}
 use Rattle.protocol.specs.declared.session.Session.TheVariants.{Closed, Open}
-use Rattle.protocol.specs.declared.session.Transfer.{Transfer}
 use Rattle.protocol.specs.Acting.{Outcome, is_unprotected, dataset_in, parent_number, at_rest}
 use Rattle.protocol.specs.Checks.{present, and_then}
 use Rattle.protocol.specs.Commands.{parameter}

@@ -1,5 +1,5 @@
 -- What the code's replies tell.
-use Rattle.std.specs.Prelude.{◌≡◌, ℕ, List, [], length, Ok, Err, Result}
+use Rattle.std.specs.Prelude.{◌≡◌, ℕ, List, length, Ok, Err, Result}
 use Rattle.byte_parts.specs.Parts.{over}
 use Rattle.wire.specs.Containers.{response}
 use Rattle.wire.specs.Parameters.{listed}

@@ -1,5 +1,5 @@
 -- The session that a responder keeps, and what its own steps come to.
-use Rattle.std.specs.Prelude.{ℕ, Bool, true, Ok, Err, Result, nat_le}
+use Rattle.std.specs.Prelude.{Bool, true, Ok, Err, Result, nat_le}
 use Rattle.protocol.specs.declared.fault.OperationFault.{OperationFault}
 use Rattle.protocol.specs.declared.fault.OperationFault.TheVariants.{TransactionCancelled}
 use Rattle.protocol.specs.declared.session.Session.{Session}

@@ -1,4 +1,4 @@
-use Rattle.std.proofs.Common.{◌≡◌, true, sym, refl, ◌∙◌, arith}
+use Rattle.std.proofs.Common.{sym, refl, ◌∙◌, arith}
 use Rattle.compare.proofs.Walks.{starts, none_above, step, some_above}
 use Rattle.compare.proofs.files.same_files.Goals as goal
 

@@ -1,4 +1,4 @@
-use Rattle.std.proofs.Common.{◌≡◌, ◌+◌, ◌≤◌, cond, [], length, sym, ap, subst, arith}
+use Rattle.std.proofs.Common.{cond, [], ap, arith}
 use Rattle.protocol.specs.Looking.{handles_on}
 use Rattle.looking.specs.Listings.{listed_in}
 use Rattle.looking.proofs.Listings.{handles_fewer, gather_same, gather_none}

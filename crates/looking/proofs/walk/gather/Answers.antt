@@ -1,4 +1,4 @@
-use Rattle.std.proofs.Common.{◌≡◌, ◌+◌, ◌≤◌, [], length, sym, ap, ◌∙◌, subst, arith, rules}
+use Rattle.std.proofs.Common.{◌+◌, [], ap, ◌∙◌, subst, arith, rules}
 use Rattle.protocol.specs.Looking.{handles_on}
 use Rattle.looking.specs.Listings.{listed_in, told_listed, one_if}
 use Rattle.looking.proofs.Walks.{above, above_all, none_above, step, fewer}

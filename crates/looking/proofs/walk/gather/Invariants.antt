@@ -1,4 +1,4 @@
-use Rattle.std.proofs.Common.{◌≡◌, length}
+use Rattle.std.proofs.Common.{length}
 use Rattle.protocol.specs.Looking.{handles_on}
 use Rattle.looking.specs.Listings.{listed_in}
 use Rattle.looking.proofs.Walks.{above}

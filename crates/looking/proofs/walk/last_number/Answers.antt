@@ -1,4 +1,4 @@
-use Rattle.std.proofs.Common.{◌≡◌, suc, ◌+◌, sym, ap, ◌∙◌, add-one, arith}
+use Rattle.std.proofs.Common.{sym, ◌∙◌, add-one, arith}
 use Rattle.looking.proofs.Walks.{step, past_start, past_step, past_end, fewer}
 use Rattle.looking.proofs.walk.last_number.Goals as goal
 

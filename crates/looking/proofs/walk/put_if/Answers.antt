@@ -1,4 +1,4 @@
-use Rattle.std.proofs.Common.{◌≡◌, ◌+◌, ◌≤◌, length, sym, ap, arith}
+use Rattle.std.proofs.Common.{length, sym, ap, arith}
 use Rattle.looking.specs.Listings.{one_if}
 use Rattle.looking.proofs.Listings.{gather_none, gather_one, gather_same}
 use Rattle.looking.proofs.walk.put_if.Goals as goal

@@ -1,4 +1,4 @@
-use Rattle.std.proofs.Common.{eqb, ltb, [], Ok, Err, sym, refl, ap, ◌∙◌}
+use Rattle.std.proofs.Common.{eqb, ltb, [], Err, refl, ap, ◌∙◌}
 use Rattle.std.proofs.lemmas.Result.{err_from_is_err_and}
 use Rattle.store.specs.Changes.{removed}
 use Rattle.protocol.specs.Acting.{object_deleted, settled, accepts}

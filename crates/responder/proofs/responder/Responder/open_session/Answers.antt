@@ -3,8 +3,6 @@ use Rattle.store.specs.Checks.{provided}
 use Rattle.store.specs.Changes.{past_last}
 use Rattle.protocol.specs.Acting.{session_opened, settled, accepts}
 use Rattle.protocol.specs.declared.fault.OperationFault.TheVariants.{InvalidParameter}
-use Rattle.protocol.specs.declared.session.OpenSession.{OpenSession}
-use Rattle.protocol.specs.declared.session.Session.{Session}
 use Rattle.protocol.specs.declared.session.Session.TheVariants.{Closed, Open}
 use Rattle.protocol.specs.declared.session.Transfer.TheVariants.{Idle}
 use Rattle.protocol.specs.Pairs.{storages_of}

@@ -1,5 +1,4 @@
 use Rattle.std.proofs.Common.{refl, ap}
-use Rattle.protocol.specs.Storages.{Storages, SoundStorages}
 use Rattle.protocol.specs.Pairs.{storages_of}
 use Rattle.responder.proofs.Laws.{lawful}
 use Rattle.responder.proofs.responder.Responder.over.Goals as goal

@@ -1,4 +1,4 @@
-use Rattle.std.proofs.Common.{◌≡◌, cond, length, Ok, Err, sym, refl, ap, ◌∙◌, subst}
+use Rattle.std.proofs.Common.{cond, length, Ok, Err, sym, refl, ap, ◌∙◌, subst}
 use Rattle.std.proofs.lemmas.Result.{err_from_is_err_and}
 use Rattle.protocol.specs.Machine.{answered, gate, served, refused, performed, performed_closed, task_of}
 use Rattle.protocol.specs.declared.fault.OperationFault.TheVariants.{ParameterNotSupported}

@@ -1,5 +1,4 @@
-use Rattle.std.proofs.Common.{◌≡◌, length, Err, sym, refl, ap, subst, arith}
-use Rattle.protocol.specs.Commands.{parameter}
+use Rattle.std.proofs.Common.{◌≡◌, length, Err, sym, refl, subst, arith}
 use Rattle.protocol.specs.Looking.{device_shown, storages_shown}
 use Rattle.protocol.specs.declared.fault.OperationFault.TheVariants.{OperationNotSupported}
 use Rattle.protocol.specs.Machine.{performed}

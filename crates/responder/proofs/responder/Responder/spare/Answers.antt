@@ -1,10 +1,9 @@
-use Rattle.std.proofs.Common.{Err, sym, refl, ap, ◌∙◌}
+use Rattle.std.proofs.Common.{Err, refl, ap, ◌∙◌}
 use Rattle.byte_parts.specs.Parts.{over}
 use Rattle.protocol.specs.Machine.{cancelled, gate}
 use Rattle.responder.specs.Replies.{told_of, tells}
 use Rattle.responder.specs.Sessions.{cancel_fault}
 use Rattle.protocol.specs.Pairs.{storages_of}
-use Rattle.responder.specs.States.{state_of}
 use Rattle.responder.proofs.Gates.{spared_told, spared_state}
 use Rattle.responder.proofs.responder.Responder.spare.Goals as goal
 
