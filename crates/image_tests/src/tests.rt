@@ -65,7 +65,7 @@ fn sample_is_described(rt: HostRuntime) -> Result<(), Fail> {
     assert!(rt; matches!(info.protection, Protection::ReadOnly));
     assert_eq!(rt; info.parent, 0);
     assert_eq!(rt; info.length, 2);
-    assert_eq!(rt; info.name.units(), &[0x41]);
+    assert_eq!(rt; info.name.units(), [0x41].as_slice());
     Ok(())
 }
 

@@ -1,11 +1,10 @@
 -- What cutting a sign off tells of the text and of the units behind it.
-use Rattle.std.proofs.Common.{◌≡◌, ℕ, ◌<◌, Bool, true, false, cond, ◌&&◌, List, [], ◌∷◌, ◌++◌, length, Some, None, Option, sym, refl, ap, ◌∙◌, subst, arith}
+use Rattle.std.proofs.Common.{◌≡◌, ℕ, ◌<◌, Bool, true, false, cond, ◌&&◌, List, [], ◌∷◌, ◌++◌, length, Some, None, sym, refl, ap, ◌∙◌, subst, arith}
 use lib.Utf8.{encode}
 use Rattle.std.proofs.lemmas.List.{append-nil, append_assoc}
 use Rattle.byte_parts.proofs.Cutting.{none_some, some_same}
 use Rattle.inspect.specs.declared.text.Sign.{Sign}
-use Rattle.inspect.specs.declared.text.Sign.TheVariants.{Plain, Escaped}
-use Rattle.inspect.specs.Signs.{is_high, is_low, pair_code, paired, single, front_of, cut_sign}
+use Rattle.inspect.specs.Signs.{is_high, is_low, pair_code, single, front_of, cut_sign}
 use Rattle.inspect.specs.Texts.{sign_text, units_text}
 
 -- the text of a sign and of the units behind it

@@ -1,5 +1,5 @@
 -- What is listed of a store: each file once, in ascending number.
-use Rattle.std.specs.Prelude.{ℕ, cond, List, [], ◌∷◌, map, length, Some, None, Option, nat_lt}
+use Rattle.std.specs.Prelude.{ℕ, cond, List, [], ◌∷◌, map, Some, None, Option, nat_lt}
 use Rattle.object.specs.declared.format.Format.{Format}
 use Rattle.object.specs.declared.protection.Protection.{Protection}
 use Rattle.store.specs.declared.info.FileInfo.{FileInfo}

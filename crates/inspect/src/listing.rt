@@ -64,7 +64,7 @@ fn next_row<S: ReadStore>(
     store: &S,
     last: u32,
 ) -> Result<Option<Row>, AllocError>
-    ensures { IfOk result (λ row. option_map row_fields row ≡ first_of (listed (above last (contents store.now).files))) }
+    ensures { IfOk result (λ row. option_map row_fields row ≡ first_of (listed (above last (S.contents store.now).files))) }
 {
     let Some(number) = store.next_above(last) else {
         return Ok(None);
@@ -77,7 +77,7 @@ fn next_row<S: ReadStore>(
 
 /// A row for each file of a store. A folder stands before what it holds, since its number is smaller.
 pub fn rows_of<S: ReadStore>(heap: Global, store: &S) -> Result<Vec<Row>, AllocError>
-    ensures { IfOk result (λ rows. map row_fields rows.items ≡ listed (contents store.now).files) }
+    ensures { IfOk result (λ rows. map row_fields rows.items ≡ listed (S.contents store.now).files) }
 {
     let mut rows = Vec::new(heap);
     let mut folders = BTreeMap::new(heap);

@@ -31,7 +31,7 @@ fn totals_line(
 }
 
 fn totals_of<S: ReadStore>(heap: Global, store: &S) -> Result<String, AllocError>
-    ensures { IfOk result (λ s. string_bytes s ≡ totals_of (contents store.now)) }
+    ensures { IfOk result (λ s. string_bytes s ≡ totals_of (S.contents store.now)) }
 {
     totals_line(
         heap,

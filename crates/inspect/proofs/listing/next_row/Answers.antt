@@ -1,4 +1,4 @@
-use Rattle.std.proofs.Common.{◌≡◌, Some, ap, ◌∙◌}
+use Rattle.std.proofs.Common.{Some, ap, ◌∙◌}
 use Rattle.inspect.proofs.Above.{no_row, described_next, row_found}
 use Rattle.inspect.proofs.listing.next_row.Goals as goal
 

@@ -2,7 +2,7 @@ use Rattle.std.proofs.Common.{vec_items, arith}
 use Rattle.inspect.specs.Listed.{listed, above, first_of}
 use Rattle.inspect.proofs.Above.{none_listed, row_listed, found_row, found_none, all_none, all_listed}
 use Rattle.inspect.proofs.listing.rows_of.Goals as goal
-use Rattle.inspect.proofs.listing.rows_of.Goals.{else-loop-listed-test, then-loop-listed-test+in-ok-row+in-default}
+use Rattle.inspect.proofs.listing.rows_of.Goals.{else-loop-listed-test, then-loop-listed-test+in_ok-row+in_default}
 
 pub loop-listed-init : goal.loop-listed-init
 loop-listed-init g c =
@@ -24,7 +24,7 @@ returns g c =
       | else-loop-listed-test w ↦
           all_listed (vec_items c.loop-listed.rows) c.loop-listed.last there c.loop-listed.invariant.0
           (omega (arith, c.loop-listed.invariant.1, c.loop-listed.rows.ok.0, w.loop-listed-test.false, c.count-listed-end.ensures))
-      | then-loop-listed-test+in-ok-row+in-default w ↦
+      | then-loop-listed-test+in_ok-row+in_default w ↦
           all_none (vec_items c.loop-listed.rows) c.loop-listed.last there c.loop-listed.invariant.0
           (found_none w.in_ok-row.field-0 (first_of (listed (above c.loop-listed.last there))) w.in_default.is w.in_ok-row.ensures)
     ]

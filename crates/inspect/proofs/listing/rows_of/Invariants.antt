@@ -5,4 +5,4 @@ use Rattle.inspect.proofs.listing.rows_of.Given as goal
 abbrev pub invariant-loop-listed : goal.invariant-loop-listed
 invariant-loop-listed g l =
     (map row_fields (vec_items l.rows) ++ listed (above l.last (g.S.ReadStore.contents l.store).files) ≡ listed (g.S.ReadStore.contents l.store).files)
-    × (vec_len l.rows ≡ l.-listed)
+    × (vec_len l.rows ≡ l._listed)
