@@ -1,6 +1,6 @@
 //! Whether stores are told apart by what they hold, and by nothing else.
 use compare::contents::same_contents;
-use image::store::ImageStore;
+use image::image_store::ImageStore;
 use std::process::Abort;
 
 /// An image of one text: its number, the one unit of its name, and its two bytes.
