@@ -126,7 +126,13 @@ def turned(path, text, table, crates):
             out.append(part)
         return "".join(out)
 
-    return "\n".join(line if line.strip().startswith(("--", "//")) else WORD.sub(word, line) for line in text.split("\n"))
+    def turn(line):
+        if line.strip().startswith(("--", "//")):
+            return line
+        # (every second piece is a string)
+        return "".join(p if i % 2 else WORD.sub(word, p) for i, p in enumerate(re.split(r'("[^"]*")', line)))
+
+    return "\n".join(turn(line) for line in text.split("\n"))
 
 
 def main():
