@@ -1,5 +1,5 @@
 //! The operations that only look, over the responder's two stores.
-ghost use Rattle.std.specs.Prelude.{◌≡◌, ◌<◌, ◌≤◌, MatchResult};
+ghost use Rattle.std.specs.Prelude.{◌≡◌, ◌<◌, ◌≤◌, IfOk};
 ghost use Rattle.protocol.specs.Commands.{parameter};
 ghost use Rattle.protocol.specs.Looking.{storage_shown, handles_shown, info_shown, object_shown, part_shown};
 ghost use Rattle.looking.specs.Looks.{shown_in, file_told};
@@ -18,7 +18,8 @@ use wire::command::Command;
 impl<'w, 'r, W: WriteStore, R: ReadStore> Responder<'w, 'r, W, R> {
     /// What is told of the file with a handle, or that there is none.
     pub(crate) fn file(&self, handle: u32) -> Result<FileInfo, OperationFault>
-        ensures { result ≡ file_told (state_of W.ReadStore W.WriteStore.own R.ReadStore self.now).storages handle }
+        ensures value { result ≡ file_told (state_of W.ReadStore W.WriteStore.own R.ReadStore self.now).storages handle }
+        ensures bounds { IfOk result (λ f. (f.parent < 0x80000000) × (f.length ≤ 32768)) }
     {
         objects::file(&*self.first, self.second, handle)
     }
