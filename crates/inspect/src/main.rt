@@ -5,6 +5,7 @@ use crate::report::report_of;
 use crate::request::{Argument, Outcome, Request, USAGE, argument_of};
 use std::fs::File;
 use std::io::Read;
+use std::process::ExitCode;
 use std::{env, io};
 
 mod listing;
@@ -82,10 +83,10 @@ fn run(rt: &HostRuntime, words: &[String]) -> io::Result<bool> {
     inspect_all(rt, words, request.is_strict)
 }
 
-fn main(rt: HostRuntime) -> io::Result<()> {
+fn main(rt: HostRuntime) -> io::Result<ExitCode> {
     let words: Vec<String> = env::args(&rt)?.skip(1).collect(rt.alloc())?;
     if run(&rt, words.as_slice())? {
-        return Err(io::Error::from(io::ErrorKind::InvalidInput));
+        return Ok(ExitCode::FAILURE);
     }
-    Ok(())
+    Ok(ExitCode::SUCCESS)
 }
