@@ -1,13 +1,14 @@
 -- Reading the units of a name from bytes.
-use Rattle.std.proofs.Common.{◌≡◌, ℕ, ◌+◌, ◌*◌, ◌/◌, ◌%◌, ◌<◌, ◌≤◌, true, ltb, leb, List, [], ◌∷◌, ◌++◌, length, take, set, replicate, Some, None, Option, sym, refl, ap, ◌∙◌, arith}
+use Rattle.std.proofs.Common.{◌≡◌, ℕ, suc, ◌+◌, ◌*◌, ◌/◌, ◌%◌, ◌<◌, true, ltb, leb, List, [], ◌∷◌, ◌++◌, length, take, drop, set, Some, None, Option, sym, refl, ap, ◌∙◌, arith}
 use Rattle.object.specs.declared.name.Name.{Name}
-use Rattle.std.proofs.lemmas.List.{append_assoc, length-append, length-set, length-take-le, take_more_set}
+use Rattle.std.proofs.lemmas.List.{append_assoc, length-set, length-drop, take_more_set}
 use Rattle.std.specs.List.{AllByRecursion}
-use Rattle.std.proofs.lemmas.Bool.{and_parts, ltb-true}
-use Rattle.byte_parts.specs.Numbers.{Bytes, le, cut_number}
+use Rattle.std.proofs.lemmas.Bool.{and_parts, ltb-true, leb-true}
+use Rattle.byte_parts.specs.Numbers.{Bytes, le, value, cut_number}
 use Rattle.byte_parts.proofs.LittleEndian.{le_value}
 use Rattle.byte_parts.proofs.Cutting.{none_some, some_same, through}
-use Rattle.object.specs.Legal.{legal_unit, all, legal_name}
+use Rattle.std.specs.List.{list_all}
+use Rattle.object.specs.Legal.{legal_unit, legal_name}
 use Rattle.object.specs.Names.{units_of, unit_bytes, named, units_in, with_units, named_some, name_in}
 use Rattle.object.proofs.Making.{refused, accepted, not_long}
 use Rattle.object.proofs.Stored.{Made, legal, illegal, made, units_legal}
@@ -15,15 +16,8 @@ use Rattle.object.proofs.Stored.{Made, legal, illegal, made, units_legal}
 -- the first i cells hold units that were read, and what is left holds the others
 pub record Sofar (bytes cs : List ℕ) (i : ℕ) (rest : List ℕ) : Type 0 where
   pub joins : with_units (take i cs) (units_in rest) ≡ units_in bytes
-  pub whole : length cs ≡ 63
-  pub short : i ≤ 63
-
-pub sofar_none : (bytes : List ℕ) → Sofar bytes (replicate 63 0) 0 bytes
-sofar_none bytes = record { joins = by (units_in bytes); whole = refl; short = omega arith }
-  where
-    by : (o : Option (List ℕ)) → with_units [] o ≡ o
-    by None = refl
-    by (Some us) = refl
+  pub left : 2 * i + length rest ≡ length bytes
+  pub cells : length cs ≡ length bytes / 2
 
 -- a unit that is cut off the front is the first of the units
 units_cut : (bs after : List ℕ) (u : ℕ) → Some (u, after) ≡ cut_number 2 bs → units_in bs ≡ with_units (u ∷ []) (units_in after)
@@ -38,43 +32,58 @@ with_units_twice : (us vs : List ℕ) (o : Option (List ℕ)) → with_units us 
 with_units_twice us vs None = refl
 with_units_twice us vs (Some ws) = ap Some (sym (append_assoc us vs ws))
 
-module _ (bytes cs : List ℕ) (i : ℕ) (rest after : List ℕ) (u : ℕ) (s : Sofar bytes cs i rest) (e : Some (u, after) ≡ cut_number 2 rest) where
-  next : with_units (take i cs ++ (u ∷ [])) (units_in after) ≡ units_in bytes
-  next = sym (with_units_twice (take i cs) (u ∷ []) (units_in after)) ∙ ap (with_units (take i cs)) (sym (units_cut rest after u e)) ∙ s.joins
-
-  pub sofar_more : i < 63 → Sofar bytes (set cs i u) (i + 1) after
-  sofar_more h =
+module _ (bytes cs : List ℕ) (i : ℕ) (rest : List ℕ) (s : Sofar bytes cs i rest) where
+  pub sofar_more : (after : List ℕ) (u : ℕ) → Some (u, after) ≡ cut_number 2 rest → i < length cs → Sofar bytes (set cs i u) (i + 1) after
+  sofar_more after u e h =
+      let through' = (through _ (value (take 2 rest), drop 2 rest) (u, after) (sym e)) in
+      let long = leb-true 2 (length rest) through'.0 in
+      let behind = ap (λ q. length q.1) through'.1 in
+      let dropped = length-drop 2 rest in
+      let left = s.left in
       record {
-        joins = ap (λ l. with_units l (units_in after)) (take_more_set cs i u (omega (arith, s.whole))) ∙ next;
-        whole = length-set cs i u ∙ s.whole;
-        short = omega arith;
+        joins =
+            ap (λ l. with_units l (units_in after)) (take_more_set cs i u h)
+            ∙ sym (with_units_twice (take i cs) (u ∷ []) (units_in after))
+            ∙ ap (with_units (take i cs)) (sym (units_cut rest after u e))
+            ∙ s.joins;
+        left = omega arith;
+        cells = length-set cs i u ∙ s.cells;
       }
 
-  -- a 64th unit is too much
-  pub sofar_long : i ≡ 63 → None ≡ name_in bytes
-  sofar_long h = by (units_in after) refl
-    where
-      by : (o : Option (List ℕ)) → units_in after ≡ o → None ≡ name_in bytes
-      by None q = ap named_some (ap (with_units (take i cs ++ (u ∷ []))) (sym q) ∙ next)
-      by (Some vs) q =
-          let us = (take i cs ++ (u ∷ [])) ++ vs in
-          let a = length-append (take i cs ++ (u ∷ [])) vs in
-          let b = length-append (take i cs) (u ∷ []) in
-          let l = length-take-le i cs (omega (arith, s.whole)) in
-          (refused us (not_long us (omega arith))).value ∙ ap named_some (ap (with_units (take i cs ++ (u ∷ []))) (sym q) ∙ next)
+units_count : (bs us : List ℕ) → units_in bs ≡ Some us → 2 * length us ≡ length bs
+units_count [] us e = let n : 0 ≡ length us = ap length (some_same e) in omega arith
+units_count (a ∷ []) us e = absurd (none_some e)
+units_count (a ∷ b ∷ bs) us e = by (λ vs q. units_count bs vs q) (units_in bs) refl e
+  where
+    by : ((vs : List ℕ) → units_in bs ≡ Some vs → 2 * length vs ≡ length bs) → (o : Option (List ℕ)) → units_in bs ≡ o → with_units ((a + 256 * b) ∷ []) o ≡ Some us → 2 * length us ≡ length (a ∷ b ∷ bs)
+    by rest None q e = absurd (none_some e)
+    by rest (Some vs) q e =
+        let n : suc (length vs) ≡ length us = ap length (some_same e) in
+        let m = rest vs q in
+        omega arith
+
+-- 64 units are too many
+pub too_long : (bytes : List ℕ) → 63 < length bytes / 2 → None ≡ name_in bytes
+too_long bytes h = by (units_in bytes) refl
+  where
+    by : (o : Option (List ℕ)) → units_in bytes ≡ o → None ≡ name_in bytes
+    by None q = ap named_some (sym q)
+    by (Some us) q =
+        let n = units_count bytes us q in
+        (refused us (not_long us (omega arith))).value ∙ ap named_some (sym q)
 
 -- legal units fit 16 bits
-all_fit : (us : List ℕ) → all legal_unit us ≡ true → AllByRecursion (λ u. u < 65536) us
+all_fit : (us : List ℕ) → list_all legal_unit us ≡ true → AllByRecursion (λ u. u < 65536) us
 all_fit [] e = tt
 all_fit (u ∷ us) e =
-    let p = and_parts (legal_unit u) (all legal_unit us) e in
+    let p = and_parts (legal_unit u) (list_all legal_unit us) e in
     let q = and_parts (leb 0x0020 u) _ p.0 in
     (ltb-true u 65536 (and_parts (ltb u 65536) _ q.1).0, all_fit us p.1)
 
 legal_fit : (us : List ℕ) → legal_name us ≡ true → AllByRecursion (λ u. u < 65536) us
 unfolding legal_name
 legal_fit us e =
-    all_fit us (and_parts (leb (length us) 63) (all legal_unit us) (and_parts (leb 1 (length us)) _ e).1).1
+    all_fit us (and_parts (leb (length us) 63) (list_all legal_unit us) (and_parts (leb 1 (length us)) _ e).1).1
 
 units_bytes : (us : List ℕ) → AllByRecursion (λ u. u < 65536) us → units_in (unit_bytes us) ≡ Some us
 units_bytes [] h = refl

@@ -1,13 +1,15 @@
 //! Formats of objects.
 ghost use Rattle.std.specs.Prelude.{◌≡◌};
-ghost use Rattle.object.specs.Formats.{format_number, format_of, is_folder};
+ghost use Rattle.object.specs.Formats.{format_number, format_told, is_folder};
 
-/// What an object is. An association is a folder.
-#[derive(Clone, Copy, PartialEq, Eq)]
+use byte_parts::number::UnknownNumber;
+
+/// What an object is, with its number on the wire and in an image. An association is a folder.
+#[derive(Clone, Copy, Debug, PartialEq, Eq)]
 pub enum Format {
-    Undefined,
-    Association,
-    Text,
+    Undefined = 0x3000,
+    Association = 0x3001,
+    Text = 0x3004,
 }
 
 impl Format {
@@ -15,23 +17,7 @@ impl Format {
     pub fn number(self) -> u16
         ensures { result ≡ format_number self }
     {
-        match self {
-            Format::Undefined => 0x3000,
-            Format::Association => 0x3001,
-            Format::Text => 0x3004,
-        }
-    }
-
-    /// The format with this number, if there is one.
-    pub fn from_number(number: u16) -> Option<Format>
-        ensures { result ≡ format_of number }
-    {
-        match number {
-            0x3000 => Some(Format::Undefined),
-            0x3001 => Some(Format::Association),
-            0x3004 => Some(Format::Text),
-            _ => None,
-        }
+        self as u16
     }
 
     /// Whether an object of this format is a folder.
@@ -39,5 +25,20 @@ impl Format {
         ensures { result ≡ is_folder self }
     {
         matches!(self, Format::Association)
+    }
+}
+
+impl TryFrom<u16> for Format {
+    type Error = UnknownNumber;
+
+    ghost try_from_gives = { λ number r. r ≡ format_told number };
+
+    fn try_from(number: u16) -> Result<Format, UnknownNumber> {
+        match number {
+            0x3000 => Ok(Format::Undefined),
+            0x3001 => Ok(Format::Association),
+            0x3004 => Ok(Format::Text),
+            _ => Err(UnknownNumber { number }),
+        }
     }
 }

@@ -9,9 +9,9 @@ pub mod make;
 pub const MAX_UNITS: usize = 63;
 
 /// A legal name. No value of this type breaks the rule on names, so code that only carries names knows nothing of it.
-#[derive(Clone, Copy)]
+#[derive(Clone, Copy, PartialEq, Eq)]
 pub struct Name {
-    units: [u16; 63],
+    units: [u16; MAX_UNITS],
     len: u8,
     ghost legal: { stored_name len units ≡ true },
 }

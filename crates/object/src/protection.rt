@@ -1,12 +1,14 @@
 //! Protections of objects.
 ghost use Rattle.std.specs.Prelude.{◌≡◌};
-ghost use Rattle.object.specs.Protections.{protection_number, protection_of};
+ghost use Rattle.object.specs.Protections.{protection_number, protection_told};
 
-/// Whether an object may be deleted or changed by a host.
-#[derive(Clone, Copy, PartialEq, Eq)]
+use byte_parts::number::UnknownNumber;
+
+/// Whether an object may be deleted or changed by a host, with the number on the wire.
+#[derive(Clone, Copy, Debug, PartialEq, Eq)]
 pub enum Protection {
-    Unprotected,
-    ReadOnly,
+    Unprotected = 0,
+    ReadOnly = 1,
 }
 
 impl Protection {
@@ -14,20 +16,20 @@ impl Protection {
     pub fn number(self) -> u16
         ensures { result ≡ protection_number self }
     {
-        match self {
-            Protection::Unprotected => 0,
-            Protection::ReadOnly => 1,
-        }
+        self as u16
     }
+}
 
-    /// The protection with this number, if there is one.
-    pub fn from_number(number: u16) -> Option<Protection>
-        ensures { result ≡ protection_of number }
-    {
+impl TryFrom<u16> for Protection {
+    type Error = UnknownNumber;
+
+    ghost try_from_gives = { λ number r. r ≡ protection_told number };
+
+    fn try_from(number: u16) -> Result<Protection, UnknownNumber> {
         match number {
-            0 => Some(Protection::Unprotected),
-            1 => Some(Protection::ReadOnly),
-            _ => None,
+            0 => Ok(Protection::Unprotected),
+            1 => Ok(Protection::ReadOnly),
+            _ => Err(UnknownNumber { number }),
         }
     }
 }

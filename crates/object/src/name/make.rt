@@ -1,15 +1,30 @@
 //! The makers of names, which alone know the rule, and the way back to the units.
-ghost use Rattle.std.specs.Prelude.{◌≡◌, ◌≤◌, length, is_some, IfSome};
+ghost use Rattle.std.specs.Prelude.{◌≡◌, ◌≤◌, true, length, is_some, IfSome};
+ghost use Rattle.std.specs.List.{list_all};
 ghost use Rattle.object.specs.Legal.{legal_unit, legal_name};
 ghost use Rattle.object.specs.Names.{units_of, named, name_in};
 
 use crate::name::{MAX_UNITS, Name};
-use byte_parts::cut::cut_u16;
+use byte_parts::cut::cut_number;
 
 fn is_legal(unit: u16) -> bool
     ensures { result ≡ legal_unit unit }
 {
     unit >= 0x0020 && unit != 0x002f && unit != 0x003a && unit != 0x005c
+}
+
+fn are_legal(units: &[u16]) -> bool
+    ensures { result ≡ list_all legal_unit units.now }
+{
+    units.iter().all(|unit| is_legal(*unit))
+}
+
+#[tactic(auto, unfolding(crate::specs::Legal::legal_name))]
+fn is_legal_name(units: &[u16]) -> bool
+    ensures value { result ≡ legal_name units.now }
+    ensures short { result ≡ true → length units.now ≤ 63 }
+{
+    units.len() >= 1 && units.len() <= MAX_UNITS && are_legal(units)
 }
 
 impl Name {
@@ -19,21 +34,14 @@ impl Name {
         ensures legal { is_some result ≡ legal_name units.now }
         ensures units { IfSome result (λ n. units_of n ≡ units.now) }
     {
-        let count = units.len();
-        if count < 1 || count > MAX_UNITS {
+        if !is_legal_name(units) {
             return None;
         }
-        let mut cells = [0u16; 63];
-        for i in 0..count {
-            let unit = units[i];
-            if !is_legal(unit) {
-                return None;
-            }
-            cells[i] = unit;
-        }
+        let mut cells = [0; MAX_UNITS];
+        cells[..units.len()].copy_from_slice(units);
         Some(Name {
             units: cells,
-            len: count as u8,
+            len: units.len() as u8,
         })
     }
 
@@ -41,19 +49,19 @@ impl Name {
     pub fn from_bytes(bytes: &[u8]) -> Option<Name>
         ensures { result ≡ name_in bytes.now }
     {
-        let mut cells = [0u16; 63];
-        let mut count = 0;
-        let mut rest = bytes;
-        while !rest.is_empty() {
-            let (unit, after) = cut_u16(rest)?;
-            if count == MAX_UNITS {
-                return None;
-            }
-            cells[count] = unit;
-            count += 1;
-            rest = after;
+        let count = bytes.len() / 2;
+        if count > MAX_UNITS {
+            return None;
         }
-        Name::from_units(&cells[0..count])
+        let mut cells = [0; MAX_UNITS];
+        let mut rest = bytes;
+        for cell in cells[..count].iter_mut() {
+            (*cell, rest) = cut_number(rest)?;
+        }
+        if !rest.is_empty() {
+            return None;
+        }
+        Name::from_units(&cells[..count])
     }
 
     // How many cells hold units.
@@ -69,7 +77,6 @@ impl Name {
         ensures value { result.now ≡ units_of self.now }
         ensures bound { (1 ≤ length result.now) × (length result.now ≤ 63) }
     {
-        let (units, _) = self.units.split_at(self.used());
-        units
+        &self.units[..self.used()]
     }
 }

@@ -1,14 +1,10 @@
-use Rattle.std.proofs.Common.{arith}
-use Rattle.object.proofs.Reading.{sofar_none, sofar_more, sofar_long}
+use Rattle.std.proofs.Common.{◌<◌, sym, subst}
+use Rattle.object.proofs.Reading.{sofar_more, too_long}
 use Rattle.object.proofs.name.Name.from_bytes.Goals as goal
 
-pub loop-rest-init : goal.loop-rest-init
-loop-rest-init c = sofar_none c.args.bytes.now
+pub returns-then-count-gt-MAX_UNITS : goal.returns-then-count-gt-MAX_UNITS
+returns-then-count-gt-MAX_UNITS c = too_long c.args.bytes.now c.if-count-gt-MAX_UNITS.true
 
-pub returns-then-count-eq-MAX_UNITS : goal.returns-then-count-eq-MAX_UNITS
-returns-then-count-eq-MAX_UNITS c =
-    sofar_long c.args.bytes.now c.loop-rest.cells c.loop-rest.count c.loop-rest.rest.now c.in_ok-unit.after.now c.in_ok-unit.unit c.loop-rest.invariant c.in_ok-unit.ensures (omega arith)
-
-pub loop-rest-preserved : goal.loop-rest-preserved
-loop-rest-preserved c =
-    sofar_more c.args.bytes.now c.loop-rest.cells c.loop-rest.count c.loop-rest.rest.now c.in_ok-unit.after.now c.in_ok-unit.unit c.loop-rest.invariant c.in_ok-unit.ensures (omega arith)
+pub loop-cell-preserved : goal.loop-cell-preserved
+loop-cell-preserved c =
+    sofar_more c.args.bytes.now c.loop-cell.cell-items c.loop-cell.cell-index c.loop-cell.rest.now c.loop-cell.invariant c.in_ok-cell.field-0-1.now c.in_ok-cell.field-0-0 c.in_ok-cell.ensures (subst (λ n. c.loop-cell.cell-index < n) (sym c.loop-cell.auto.cell-items) c.loop-cell-test.true)

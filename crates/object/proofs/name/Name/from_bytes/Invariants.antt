@@ -1,9 +1,5 @@
-use Rattle.std.proofs.Common.{length}
 use Rattle.object.proofs.Reading.{Sofar}
 use Rattle.object.proofs.name.Name.from_bytes.Given as goal
 
-abbrev pub invariant-loop-rest : goal.invariant-loop-rest
-invariant-loop-rest l = Sofar l.bytes l.cells l.count l.rest
-
-abbrev pub decreases-loop-rest : goal.decreases-loop-rest
-decreases-loop-rest l = length l.rest
+abbrev pub invariant-loop-cell : goal.invariant-loop-cell
+invariant-loop-cell l = Sofar l.bytes l.cell-items l.cell-index l.rest
