@@ -16,7 +16,9 @@ pub struct WriteLock<'a, S> {
 impl<'a, S> WriteLock<'a, S> {
     /// A lock over `below`, not set.
     pub fn new(below: &'a mut S) -> WriteLock<'a, S>
-        ensures { (result.below.now ≡ below.old) × ((result.set ≡ false) × (result.below.ghost_name ≡ below.entry.ghost_name)) }
+        ensures below { result.below.now ≡ below.old }
+        ensures set { result.set ≡ false }
+        ensures lender { result.below.ghost_name ≡ below.entry.ghost_name }
     {
         WriteLock { below, set: false }
     }
@@ -72,6 +74,7 @@ impl<'a, S: WriteStore> WriteStore for WriteLock<'a, S> {
         self.set || self.below.is_locked()
     }
 
+    #[tactic(auto, unfolding(store::specs::Changes::added))]
     fn add(&mut self, number: u32, file: &NewFile, bytes: &[u8]) -> Result<(), StoreFault> {
         if self.set {
             return Err(StoreFault::ReadOnly);
@@ -79,6 +82,7 @@ impl<'a, S: WriteStore> WriteStore for WriteLock<'a, S> {
         self.below.add(number, file, bytes)
     }
 
+    #[tactic(auto, unfolding(store::specs::Changes::removed))]
     fn remove(&mut self, number: u32) -> Result<(), StoreFault> {
         if self.set {
             return Err(StoreFault::ReadOnly);

@@ -149,7 +149,7 @@ module _ (n : ℕ) (c : Contents) (s : Sound c) (free : has_children n c.files �
       by (inl q) = absurd (none_some (sym (find_removed n 0 c.files s.ascending) ∙ ap (λ k. lookup k (without n c.files)) (sym q) ∙ e))
       by (inr q) = sym (find_kept n m c.files q) ∙ e
 
-  sound_removed : Sound (with_files c (without n c.files))
+  pub sound_removed : Sound (with_files c (without n c.files))
   sound_removed = record {
     capacity_bound = s.capacity_bound;
     limit_bound = s.limit_bound;

@@ -5,7 +5,7 @@ use Rattle.store.specs.declared.fault.StoreFault.{StoreFault}
 use Rattle.store.specs.declared.fault.StoreFault.TheVariants.{ReadOnly, InvalidDataset, NumberTaken, InvalidParent, Full, Absent, HasChildren}
 use Rattle.store.specs.Checks.{provided}
 use Rattle.store.specs.Contents.{File, Entry, Contents, total, lookup}
-use Rattle.store.specs.Sound.{is_parent, last_number, max_length}
+use Rattle.store.specs.Sound.{is_parent, last_number, max_length, max_files, max_capacity}
 
 -- the files with one more, in its place by number
 abbrev pub inserted : ℕ → File → List Entry → List Entry
@@ -28,6 +28,10 @@ is_absent (Some f) = false
 abbrev pub has_children : ℕ → List Entry → Bool
 has_children n [] = false
 has_children n (e ∷ es) = e.file.parent == n || has_children n es
+
+-- a store may have these sizes
+abbrev pub legal_sizes : ℕ → ℕ → Bool
+legal_sizes limit capacity = nat_le limit max_files && nat_le capacity max_capacity
 
 abbrev pub is_number : ℕ → Bool
 is_number n = nat_le 1 n && nat_le n last_number

@@ -7,3 +7,4 @@ pub mod Infos
 pub mod Laws
 pub mod Sound
 pub mod SoundProp
+pub mod Walks

@@ -3,22 +3,22 @@ ghost use Rattle.std.specs.Prelude.{◌≡◌};
 ghost use Rattle.store.specs.Faults.{store_fault_number};
 
 /// A store's refusal. It alters nothing.
-#[derive(Clone, Copy)]
+#[derive(Clone, Copy, PartialEq, Eq, Debug)]
 pub enum StoreFault {
     /// The store is locked.
-    ReadOnly,
+    ReadOnly = 0x200e,
     /// The number, or anything of the file but its parent, breaks the limits.
-    InvalidDataset,
+    InvalidDataset = 0xa806,
     /// A file has this number already.
-    NumberTaken,
+    NumberTaken = 0x201d,
     /// The parent is neither the root nor a folder of a smaller number.
-    InvalidParent,
+    InvalidParent = 0x201a,
     /// There is no place or there are too few bytes left.
-    Full,
+    Full = 0x200c,
     /// No file has this number.
-    Absent,
+    Absent = 0x2009,
     /// The number is some file's parent.
-    HasChildren,
+    HasChildren = 0x200f,
 }
 
 impl StoreFault {
@@ -26,14 +26,6 @@ impl StoreFault {
     pub fn number(self) -> u16
         ensures { result ≡ store_fault_number self }
     {
-        match self {
-            StoreFault::ReadOnly => 0x200e,
-            StoreFault::InvalidDataset => 0xa806,
-            StoreFault::NumberTaken => 0x201d,
-            StoreFault::InvalidParent => 0x201a,
-            StoreFault::Full => 0x200c,
-            StoreFault::Absent => 0x2009,
-            StoreFault::HasChildren => 0x200f,
-        }
+        self as u16
     }
 }
