@@ -1,16 +1,18 @@
 -- What rows and bytes hold after a file is put in or taken out.
-use Rattle.std.proofs.Common.{◌≡◌, ℕ, ◌+◌, ◌≤◌, Bool, true, false, cond, eqb, ltb, List, [], ◌∷◌, ◌++◌, length, take, drop, IfSome, Some, None, Option, sym, ap, ◌∙◌, add_assoc, arith, length-drop, take-append-drop, length-take-le, take-take, drop-drop, take_at, drop_at, MatchOption}
+use Rattle.std.proofs.Common.{◌≡◌, ℕ, suc, ◌+◌, ◌<◌, ◌≤◌, Bool, true, false, cond, not, eqb, ltb, List, [], ◌∷◌, ◌++◌, length, get_or, take, drop, Some, sym, refl, ap, ◌∙◌, subst, add_assoc, arith, length-drop, length-take-le, take-take, drop-drop, take_at, drop_at}
 use lib.Seq.{take-append-le}
+use Rattle.std.specs.List.{insert, remove, position_or_len}
 use Rattle.std.proofs.lemmas.List.{drop-take, drop-append-le}
-use Rattle.std.specs.Option.{option_map}
+use Rattle.std.proofs.lemmas.List.Sums.{sum_by-take-le, sum_by_more, sum_by_more_le}
 use Rattle.store.specs.Contents.{File, Entry}
 use Rattle.store.specs.Changes.{inserted, without}
+use Rattle.store.specs.Changing.{file_of}
+use Rattle.store.specs.Infos.{with_length}
 use Rattle.store.specs.declared.info.FileInfo.{FileInfo}
-use Rattle.heap_store.specs.Rows.{taken, file_in, files_in, first, behind, place_for, found_behind, found_in, with_row, with_bytes, without_row, without_bytes}
+use Rattle.store.specs.declared.info.NewFile.{NewFile}
+use Rattle.heap_store.specs.Rows.{taken, file_in, files_in, rank_of, rank_for}
 use Rattle.heap_store.specs.declared.row.Row.{Row}
-use Rattle.heap_store.specs.declared.row.Place.{Place}
-use Rattle.heap_store.specs.declared.row.Found.{Found}
-use Rattle.heap_store.proofs.Files.{IsThere, is_there, place_start}
+use Rattle.heap_store.proofs.Files.{has, taken_cons, at_first}
 
 -- the front row keeps its bytes, and the others see what lies behind them
 past_front : (r : Row) (rs : List Row) (s : ℕ) (bs tail : List ℕ) → r.file.length + s ≤ length bs
@@ -37,17 +39,23 @@ new_front r rs new bs e =
     let there : drop r.file.length (new ++ bs) ≡ bs = drop_at new bs r.file.length (sym e) in
     λ i. record { number = r.number; file = whole r.file (here i) } ∷ files_in rs (there i)
 
+-- a row goes before the first of a larger number, and its file's bytes go behind those of the rows before it
 pub files_added : (r : Row) (new : List ℕ) (rs : List Row) (bs : List ℕ) → r.file.length ≡ length new → taken rs ≤ length bs
-    → files_in (with_row (place_for r.number rs) r rs) (with_bytes (place_for r.number rs) new bs) ≡ inserted r.number (whole r.file new) (files_in rs bs)
+    → let i = position_or_len (λ (x : Row). ltb r.number x.number) rs in
+    files_in (take i rs ++ r ∷ drop i rs) (take (taken (take i rs)) bs ++ (new ++ drop (taken (take i rs)) bs)) ≡ inserted r.number (whole r.file new) (files_in rs bs)
 files_added r new [] bs e h = new_front r [] new bs e
 files_added r new (x ∷ rs) bs e h =
-    by (ltb r.number x.number) (files_added r new rs (drop l bs) e (omega (arith, length-drop l bs)))
+    let more = taken_cons x rs in
+    by (ltb r.number x.number) (1 + i) (omega arith) (files_added r new rs (drop l bs) e (omega (arith, length-drop l bs)))
   where
     l : ℕ
     l = x.file.length
 
-    p : Place
-    p = place_for r.number rs
+    i : ℕ
+    i = position_or_len (λ (y : Row). ltb r.number y.number) rs
+
+    s : ℕ
+    s = taken (take i rs)
 
     rest : List Entry
     rest = files_in rs (drop l bs)
@@ -58,32 +66,36 @@ files_added r new (x ∷ rs) bs e h =
     new_file : File
     new_file = whole r.file new
 
-    by : (t : Bool) → files_in (with_row p r rs) (with_bytes p new (drop l bs)) ≡ inserted r.number new_file rest
-        → files_in (with_row (cond t first (behind x p)) r (x ∷ rs)) (with_bytes (cond t first (behind x p)) new bs)
+    by : (t : Bool) (j : ℕ) → j ≡ suc i → files_in (take i rs ++ r ∷ drop i rs) (take s (drop l bs) ++ (new ++ drop s (drop l bs))) ≡ inserted r.number new_file rest
+        → let k = cond (not t) j 0 in
+        files_in (take k (x ∷ rs) ++ r ∷ drop k (x ∷ rs)) (take (taken (take k (x ∷ rs))) bs ++ (new ++ drop (taken (take k (x ∷ rs))) bs))
         ≡ cond t (record { number = r.number; file = new_file } ∷ (front ∷ rest)) (front ∷ inserted r.number new_file rest)
-    by true k = new_front r (x ∷ rs) new bs e
-    by false k =
-        past_front x (with_row p r rs) p.start bs (new ++ drop (l + p.start) bs) (omega (arith, h, place_start r.number rs))
-        ∙ ap (λ z. front ∷ files_in (with_row p r rs) (take p.start (drop l bs) ++ (new ++ z))) (sym (drop-drop p.start l bs))
-        ∙ ap (λ z. front ∷ z) k
+    by true j q k = new_front r (x ∷ rs) new bs e
+    by false j q k =
+        let more = taken_cons x rs in
+        rw (q, taken_cons x (take i rs))
+        (past_front x (take i rs ++ r ∷ drop i rs) s bs (new ++ drop (l + s) bs) (omega (arith, sum_by-take-le (λ (y : Row). y.file.length) rs i))
+        ∙ ap (λ z. front ∷ files_in (take i rs ++ r ∷ drop i rs) (take s (drop l bs) ++ (new ++ z))) (sym (drop-drop s l bs))
+        ∙ ap (λ z. front ∷ z) k)
 
-taken_append : (xs ys : List Row) → taken (xs ++ ys) ≡ taken xs + taken ys
-taken_append [] ys = omega arith
-taken_append (x ∷ xs) ys = omega (arith, taken_append xs ys)
-
-pub taken_added : (p : Place) (r : Row) (rs : List Row) → taken (with_row p r rs) ≡ taken rs + r.file.length
-taken_added p r rs =
-    let whole_list : taken (take p.rank rs ++ drop p.rank rs) ≡ taken rs = ap taken (take-append-drop p.rank rs) in
-    omega (arith, taken_append (take p.rank rs) (r ∷ drop p.rank rs), taken_append (take p.rank rs) (drop p.rank rs))
-
-pub files_removed : (n : ℕ) (rs : List Row) (bs : List ℕ) → taken rs ≤ length bs
-    → IfSome (found_in n rs) (λ f. files_in (without_row f rs) (without_bytes f bs) ≡ without n (files_in rs bs))
-files_removed n [] bs h = tt
-files_removed n (x ∷ rs) bs h =
-    by (eqb x.number n) (found_in n rs) (is_there n rs) (files_removed n rs (drop l bs) (omega (arith, length-drop l bs)))
+-- a row goes out, and its file's bytes with it
+pub files_removed : (n : ℕ) (rs : List Row) (bs : List ℕ) (d : Row) → taken rs ≤ length bs
+    → let i = position_or_len (has n) rs in
+    i < length rs
+    → files_in (take i rs ++ drop (suc i) rs) (take (taken (take i rs)) bs ++ drop (taken (take i rs) + (get_or rs i d).file.length) bs) ≡ without n (files_in rs bs)
+files_removed n [] bs d h b = absurd (omega arith)
+files_removed n (x ∷ rs) bs d h b =
+    let more = taken_cons x rs in
+    by (eqb x.number n) (1 + i) (omega arith) b (files_removed n rs (drop l bs) d (omega (arith, length-drop l bs)))
   where
     l : ℕ
     l = x.file.length
+
+    i : ℕ
+    i = position_or_len (has n) rs
+
+    s : ℕ
+    s = taken (take i rs)
 
     rest : List Entry
     rest = files_in rs (drop l bs)
@@ -91,15 +103,33 @@ files_removed n (x ∷ rs) bs h =
     front : Entry
     front = record { number = x.number; file = file_in x.file bs }
 
-    by : (t : Bool) (o : Option Found) → IfSome o (IsThere n rs)
-        → IfSome o (λ f. files_in (without_row f rs) (without_bytes f (drop l bs)) ≡ without n rest)
-        → MatchOption (cond t (Some (record { row = x; place = first })) (option_map (found_behind x) o)) (Unit {0})
-        (λ f. files_in (without_row f (x ∷ rs)) (without_bytes f bs) ≡ cond t rest (front ∷ without n rest))
-    by true o there k = let e : 0 + l ≡ l = omega arith in ap (λ m. files_in rs (drop m bs)) e
-    by false None there k = tt
-    by false (Some f) there k =
-        let s : ℕ = f.place.start in
-        let m : ℕ = f.row.file.length in
-        past_front x (without_row f rs) s bs (drop (l + s + m) bs) (omega (arith, h, there.within))
-        ∙ ap (λ z. front ∷ files_in (without_row f rs) (take s (drop l bs) ++ z)) (ap (λ z. drop z bs) (add_assoc l s m) ∙ sym (drop-drop (s + m) l bs))
-        ∙ ap (λ z. front ∷ z) k
+    by : (t : Bool) (j : ℕ) → j ≡ suc i → cond (not t) j 0 < suc (length rs)
+        → (i < length rs → files_in (take i rs ++ drop (suc i) rs) (take s (drop l bs) ++ drop (s + (get_or rs i d).file.length) (drop l bs)) ≡ without n rest)
+        → let k = cond (not t) j 0 in
+        files_in (take k (x ∷ rs) ++ drop (suc k) (x ∷ rs)) (take (taken (take k (x ∷ rs))) bs ++ drop (taken (take k (x ∷ rs)) + (get_or (x ∷ rs) k d).file.length) bs)
+        ≡ cond t rest (front ∷ without n rest)
+    by true j q b k = let e : 0 + l ≡ l = omega arith in ap (λ m. files_in rs (drop m bs)) e
+    by false j q b k =
+        let m : ℕ = (get_or rs i d).file.length in
+        let more = taken_cons x rs in
+        let below = sum_by_more_le (λ (y : Row). y.file.length) rs i d (omega arith) in
+        rw (q, taken_cons x (take i rs))
+        (past_front x (take i rs ++ drop (suc i) rs) s bs (drop (l + s + m) bs) (omega arith)
+        ∙ ap (λ z. front ∷ files_in (take i rs ++ drop (suc i) rs) (take s (drop l bs) ++ z)) (ap (λ z. drop z bs) (add_assoc l s m) ∙ sym (drop-drop (s + m) l bs))
+        ∙ ap (λ z. front ∷ z) (k (omega arith)))
+
+-- the same, as the memory does it
+pub goes_in : (n : ℕ) (f : NewFile) (run : List ℕ) (rs : List Row) (bs : List ℕ) (i start : ℕ) → taken rs ≤ length bs
+    → i ≡ rank_for n rs → start ≡ taken (take i rs)
+    → files_in (insert rs i (record { number = n; file = with_length f (length run) })) (take start bs ++ (run ++ drop start bs)) ≡ inserted n (file_of f run) (files_in rs bs)
+unfolding rank_for
+goes_in n f run rs bs i start h e s = rw (s, e) (files_added (record { number = n; file = with_length f (length run) }) run rs bs refl h)
+
+pub goes_out : (n : ℕ) (rs : List Row) (bs : List ℕ) (i start end : ℕ) (d : Row) → taken rs ≤ length bs → rank_of n rs ≡ Some i
+    → start ≡ taken (take i rs) → end ≡ taken (take (i + 1) rs) → files_in (remove rs i) (take start bs ++ drop end bs) ≡ without n (files_in rs bs)
+unfolding rank_of
+goes_out n rs bs i start end d h e s t =
+    let (at, within) = at_first (has n) rs i e in
+    let more = sum_by_more (λ (r : Row). r.file.length) rs i d (subst (λ k. k < length rs) at within) in
+    let stop : end ≡ taken (take i rs) + (get_or rs i d).file.length = omega arith in
+    rw (s, stop, ← at) (files_removed n rs bs d h within)

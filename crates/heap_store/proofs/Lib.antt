@@ -1,9 +1,3 @@
-pub mod Adding
 pub mod Changed
-pub mod Checked
+pub mod Changes
 pub mod Files
-pub mod Kept
-pub mod Read
-pub mod Removing
-pub mod Scans
-pub mod Splices

@@ -1,4 +1,4 @@
-pub mod Checked
 pub mod Held
+pub mod InMemory
 pub mod Made
 pub mod Rows

@@ -2,8 +2,6 @@
 #![tactic(auto)]
 
 pub mod heap;
-mod limits;
 mod memory;
 mod row;
-mod rows;
 mod splice;

@@ -1,57 +1,127 @@
 //! The memory of a store.
-ghost use Rattle.std.specs.Prelude.{◌≡◌, ◌+◌, ◌<◌, ◌≤◌, [], length, IfOk, vec_len, vec_capacity};
-ghost use Rattle.heap_store.specs.Rows.{with_row, with_bytes, without_row, without_bytes};
+ghost use Rattle.std.specs.Prelude.{◌≡◌, ◌+◌, ◌^◌, ◌<◌, ◌≤◌, [], length, IfOk, vec_len, vec_capacity};
+ghost use Rattle.store.specs.Contents.{total, lookup, next_above, bytes_of};
+ghost use Rattle.store.specs.Infos.{described};
+ghost use Rattle.store.specs.Changes.{inserted, without, has_children};
+ghost use Rattle.store.specs.Changing.{file_of};
+ghost use Rattle.heap_store.specs.InMemory.{InMemory};
+ghost use Rattle.heap_store.specs.Rows.{taken, files_in};
 
-use crate::row::{Found, Place, Row};
-use crate::splice::{put_in, take_out};
+use crate::row::{Row, have_parent, number_above, rank_for, rank_of, span, taken};
+use crate::splice::put_in;
 use std::alloc::{AllocError, Global};
+use std::marker::Model;
+use store::info::{FileInfo, NewFile};
 
-/// Rows, and the bytes of their files, which lie in the order of the rows without gaps.
+/// Files: a row of each, and their bytes, which lie in the order of the rows without gaps.
+// Rows and bytes are two vectors, each as large as it will ever be, since an addition may not fail for want of memory.
 #[derive(Drop)]
 pub(crate) struct Memory {
-    pub rows: Vec<Row>,
-    pub bytes: Vec<u8>,
+    rows: Vec<Row>,
+    bytes: Vec<u8>,
+}
+
+impl Model for Memory {
+    ghost Value = { InMemory };
+
+    ghost view = { λ m. record { files = files_in m.rows.items m.bytes.items; row_room = vec_capacity m.rows; byte_room = vec_capacity m.bytes } };
+
+    ghost invariant = { λ m. taken m.rows.items ≡ vec_len m.bytes };
 }
 
 impl Memory {
-    /// Empty memory for so many rows and bytes.
+    /// Memory without files for so many rows and bytes.
     pub(crate) fn new(heap: Global, rows: u32, bytes: u32) -> Result<Memory, AllocError>
-        ensures { IfOk result (λ m. (m.rows.items ≡ []) × (m.bytes.items ≡ []) × (rows ≤ vec_capacity m.rows) × (bytes ≤ vec_capacity m.bytes)) }
+        ensures { IfOk result (λ m. (m.files ≡ []) × (rows ≤ m.row_room) × (bytes ≤ m.byte_room)) }
     {
         let rows = Vec::with_capacity(heap, rows as usize)?;
         let bytes = Vec::with_capacity(heap, bytes as usize)?;
         Ok(Memory { rows, bytes })
     }
 
-    /// Puts a row and its file's bytes in at a place. There is room for both, so neither fails.
-    pub(crate) fn put(&mut self, place: Place, row: Row, run: &[u8])
-        requires rank { place.rank ≤ vec_len self.old.rows }
-        requires start { place.start ≤ vec_len self.old.bytes }
-        requires free_row { vec_len self.old.rows < vec_capacity self.old.rows }
-        requires free_bytes { vec_len self.old.bytes + length run.now ≤ vec_capacity self.old.bytes }
-        ensures rows { self.new.rows.items ≡ with_row place row self.old.rows.items }
-        ensures bytes { self.new.bytes.items ≡ with_bytes place run.now self.old.bytes.items }
-        ensures room_for_rows { vec_capacity self.old.rows ≤ vec_capacity self.new.rows }
-        ensures room_for_bytes { vec_capacity self.old.bytes ≤ vec_capacity self.new.bytes }
+    /// How many files there are.
+    #[tactic(auto, using(crate::proofs::Files::count_files))]
+    pub(crate) fn count(&self) -> usize
+        ensures { result ≡ length self.now.files }
     {
-        self.rows.insert(place.rank, row).unwrap();
-        put_in(&mut self.bytes, place.start, run);
+        self.rows.len()
     }
 
-    /// Takes a row and its file's bytes out.
-    pub(crate) fn take(&mut self, found: Found)
-        requires rank { found.place.rank < vec_len self.old.rows }
-        requires bytes { found.place.start + found.row.file.length ≤ vec_len self.old.bytes }
-        ensures rows { self.new.rows.items ≡ without_row found self.old.rows.items }
-        ensures bytes { self.new.bytes.items ≡ without_bytes found self.old.bytes.items }
-        ensures room_for_rows { vec_capacity self.old.rows ≤ vec_capacity self.new.rows }
-        ensures room_for_bytes { vec_capacity self.old.bytes ≤ vec_capacity self.new.bytes }
+    /// How many bytes the files have in all.
+    #[tactic(auto, using(crate::proofs::Files::total_files))]
+    pub(crate) fn total(&self) -> usize
+        ensures { result ≡ total self.now.files }
     {
-        let _row = self.rows.remove(found.place.rank);
-        take_out(
-            &mut self.bytes,
-            found.place.start,
-            found.row.file.length as usize,
-        );
+        self.bytes.len()
+    }
+
+    /// The first number above `number`, if there is one.
+    #[tactic(auto, using(crate::proofs::Files::above_files))]
+    pub(crate) fn next_above(&self, number: u32) -> Option<u32>
+        ensures { result ≡ next_above number self.now.files }
+    {
+        number_above(&self.rows, number)
+    }
+
+    /// Whether the number is some file's parent.
+    #[tactic(auto, using(crate::proofs::Files::children_files))]
+    pub(crate) fn has_children(&self, number: u32) -> bool
+        ensures { result ≡ has_children number self.now.files }
+    {
+        have_parent(&self.rows, number)
+    }
+
+    /// What is told of a file, if it is there.
+    #[tactic(auto, using(crate::proofs::Files::described_at, crate::proofs::Files::described_nowhere))]
+    pub(crate) fn describe(&self, number: u32) -> Option<FileInfo>
+        ensures { result ≡ described number self.now.files }
+    {
+        let rank = rank_of(&self.rows, number)?;
+        Some(self.rows[rank].file)
+    }
+
+    /// A file's bytes; none of an absent one.
+    #[tactic(auto, using(crate::proofs::Files::bytes_at, crate::proofs::Files::bytes_nowhere))]
+    pub(crate) fn bytes_of(&self, number: u32) -> &[u8]
+        ensures { result.now ≡ bytes_of (lookup number self.now.files) }
+    {
+        match rank_of(&self.rows, number) {
+            Some(rank) => {
+                let place = span(&self.rows, rank);
+                &self.bytes[place]
+            }
+            None => &[],
+        }
+    }
+
+    /// Adds a file. There is room for it, so that it does not fail.
+    #[tactic(auto, using(crate::proofs::Changed::goes_in, crate::proofs::Files::count_files, crate::proofs::Files::total_files))]
+    pub(crate) fn add(&mut self, number: u32, file: &NewFile, run: &[u8])
+        requires row { length self.old.files < self.old.row_room }
+        requires bytes { total self.old.files + length run.now ≤ self.old.byte_room }
+        requires small { length run.now < 2 ^ 32 }
+        ensures files { self.new.files ≡ inserted number (file_of file.now run.now) self.old.files }
+        ensures row_room { self.old.row_room ≤ self.new.row_room }
+        ensures byte_room { self.old.byte_room ≤ self.new.byte_room }
+    {
+        let rank = rank_for(&self.rows, number);
+        let start = taken(&self.rows[..rank]);
+        let file = file.with_length(run.len() as u32);
+        self.rows.insert(rank, Row { number, file }).unwrap();
+        put_in(&mut self.bytes, start, run);
+    }
+
+    /// Removes a file, if it is there.
+    #[tactic(auto, using(crate::proofs::Changed::goes_out, crate::proofs::Files::nothing_goes))]
+    pub(crate) fn remove(&mut self, number: u32)
+        ensures files { self.new.files ≡ without number self.old.files }
+        ensures row_room { self.old.row_room ≤ self.new.row_room }
+        ensures byte_room { self.old.byte_room ≤ self.new.byte_room }
+    {
+        if let Some(rank) = rank_of(&self.rows, number) {
+            let place = span(&self.rows, rank);
+            self.rows.remove(rank);
+            self.bytes.drain(place);
+        }
     }
 }

@@ -1,5 +1,5 @@
-//! Putting a run into a vector and taking one out, within the memory that it has.
-ghost use Rattle.std.specs.Prelude.{◌≡◌, ◌+◌, ◌<◌, ◌≤◌, ◌++◌, length, take, drop, vec_len, vec_capacity};
+//! Putting a run into a vector, within the memory that it has.
+ghost use Rattle.std.specs.Prelude.{◌≡◌, ◌+◌, ◌≤◌, ◌++◌, length, take, drop, vec_len, vec_capacity};
 
 /// Puts `run` in at `at`.
 pub(crate) fn put_in(bytes: &mut Vec<u8>, at: usize, run: &[u8])
@@ -10,14 +10,4 @@ pub(crate) fn put_in(bytes: &mut Vec<u8>, at: usize, run: &[u8])
 {
     bytes.extend_from_slice(run).unwrap();
     bytes[at..].rotate_right(run.len());
-}
-
-/// Takes `count` bytes out at `at`.
-pub(crate) fn take_out(bytes: &mut Vec<u8>, at: usize, count: usize)
-    requires { at + count ≤ vec_len bytes.old }
-    ensures items { bytes.new.items ≡ take at bytes.old.items ++ drop (at + count) bytes.old.items }
-    ensures capacity { vec_capacity bytes.new ≡ vec_capacity bytes.old }
-{
-    bytes.copy_within(at + count.., at);
-    bytes.truncate(bytes.len() - count);
 }
