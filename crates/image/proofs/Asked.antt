@@ -1,26 +1,21 @@
 -- What the store in an image answers.
-use Rattle.std.proofs.Common.{◌≡◌, ℕ, ◌-◌, ◌≤◌, Bool, true, false, cond, eqb, List, [], length, Some, None, Ok, Err, Option, Result, sym, refl, ap, ◌∙◌, subst}
-use Rattle.std.proofs.lemmas.Bool.{and_parts, and_from, eqb-true, eq-eqb, false≢true}
-use Rattle.store.specs.Contents.{File, Entry, Contents, total, lookup, next_above}
+use Rattle.std.proofs.Common.{◌≡◌, ℕ, ◌-◌, ◌<◌, ◌≤◌, Bool, true, false, cond, eqb, List, [], length, Some, None, Ok, Err, Option, Result, sym, refl, ap, ◌∙◌, subst, IsOk, get_or, Fits, w8, arith}
+use Rattle.std.specs.Option.{option_map}
+use Rattle.std.proofs.lemmas.Bool.{and_parts, eqb-true, false≢true}
+use Rattle.std.proofs.ByRecursion.{All-from_get_or}
+use Rattle.byte_parts.specs.Numbers.{Bytes}
+use Rattle.store.specs.Contents.{File, Entry, Contents, total, lookup, next_above, bytes_of}
 use Rattle.store.specs.Sound.{Ascending}
-use Rattle.byte_parts.proofs.Cutting.{some_same}
 use Rattle.object.specs.Names.{name_in}
-use Rattle.object.specs.declared.name.Name.{Name}
 use Rattle.object.specs.declared.protection.Protection.TheVariants.{ReadOnly}
-use Rattle.store.specs.Infos.{info_of}
-use Rattle.store.specs.declared.info.FileInfo.{FileInfo}
 use Rattle.image.specs.HeldSound.{held_sound}
-use Rattle.image.specs.Held.{held, held_by, holds, accepted_with, verdict_of}
-use Rattle.image_format.specs.Parsed.{files_from, parsed, full_of}
+use Rattle.image.specs.Held.{held, held_by, holds, accepted_with}
+use Rattle.image_format.specs.Parsed.{bind, parsed, full_of}
 use Rattle.image_format.specs.Walk.{Plain, sought, numbered, sought_at, ok_by, layout_of}
-use Rattle.image_format.specs.declared.layout.Layout.{Layout}
 use Rattle.image_format.specs.declared.fault.SpoiltImage.{SpoiltImage}
 use Rattle.image_format.proofs.Entries.{first_above, file_numbered, next_first, number_of, lookup_first}
-use Rattle.byte_parts.specs.Numbers.{Bytes}
 use Rattle.image_format.specs.Images.{IsImage}
 use Rattle.image_format.proofs.Exact.{accepted, accepted_image}
-use Rattle.image_format.proofs.Inverted.{ok_same, err_ok}
-use Rattle.image_format.proofs.Opening.{err_same}
 use Rattle.image_format.proofs.Walked.{Walked, Finds, sought_walked, Lies}
 
 -- the files of an accepted image
@@ -81,74 +76,71 @@ module _ (image : List ℕ) (count sum : ℕ) (h : holds image count sum ≡ tru
   abbrev there : Open image count sum
   there = opened image count sum h
 
-  pub asked_next : (n : ℕ) → number_in (sought count image n) ≡ next_above n (held image).files
+  asked_next : (n : ℕ) → number_in (sought count image n) ≡ next_above n (held image).files
   asked_next n =
       ap (λ k. number_in (sought k image n)) (sym there.counted)
       ∙ numbers_found (sought (length there.files) image n) (first_above n there.files) (sought_walked n image there.files [] there.walked)
       ∙ sym (next_first n there.files) ∙ ap (λ c. next_above n c.files) (sym there.is)
 
-  pub asked_file : (n : ℕ) → Told n (sought_at count image n) (lookup n (held image).files)
+  asked_file : (n : ℕ) → Told n (sought_at count image n) (lookup n (held image).files)
   asked_file n =
       subst (λ c. Told n (sought_at count image n) (lookup n c.files)) (sym there.is)
       (subst (λ k. Told n (sought_at k image n) (lookup n there.files)) there.counted
       (subst (Told n (sought_at (length there.files) image n)) (sym (lookup_first 0 n there.files there.ascending))
       (numbered_found n (sought (length there.files) image (n - 1)) (first_above (n - 1) there.files) (sought_walked (n - 1) image there.files [] there.walked))))
 
--- the layout tells whether the image was accepted, and how much it holds
-pub layout_held : (image : List ℕ) (l : Layout) → Ok l ≡ ok_by layout_of (parsed image) → (holds image l.count l.total ≡ true) × (Ok tt ≡ verdict_of (parsed image))
-layout_held image l e = by (parsed image) e
+-- the file that a record is, if its name is one
+abbrev pub file_in : Plain → Option File
+file_in p =
+    option_map (λ name. record { format = p.head.format; protection = ReadOnly; parent = p.head.parent; name = name; bytes = p.body }) (name_in p.name)
+
+abbrev pub body_in : Option Plain → List ℕ
+body_in None = []
+body_in (Some p) = p.body
+
+told_file : (n : ℕ) (o : Option Plain) (f : Option File) → Told n o f → f ≡ bind o file_in
+told_file n None None t = refl
+told_file n None (Some f) t = absurd t
+told_file n (Some p) None t = absurd t
+told_file n (Some p) (Some f) t =
+    sym (ap (option_map (λ name. record { format = p.head.format; protection = ReadOnly; parent = p.head.parent; name = name; bytes = p.body })) t.name
+    ∙ (λ i. Some (record { format = (t.head i).format; protection = sym t.protected i; parent = (t.head i).parent; name = f.name; bytes = t.body i })))
+
+told_bytes : (n : ℕ) (o : Option Plain) (f : Option File) → Told n o f → bytes_of f ≡ body_in o
+told_bytes n None None t = refl
+told_bytes n None (Some f) t = absurd t
+told_bytes n (Some p) None t = absurd t
+told_bytes n (Some p) (Some f) t = sym t.body
+
+-- what the walk answers, of an accepted image
+pub record Answered (image : List ℕ) (count : ℕ) : Type 0 where
+  pub next : (n : ℕ) → number_in (sought count image n) ≡ next_above n (held image).files
+  pub file : (n : ℕ) → lookup n (held image).files ≡ bind (sought_at count image n) file_in
+  pub bytes : (n : ℕ) → bytes_of (lookup n (held image).files) ≡ body_in (sought_at count image n)
+  pub short : (n : ℕ) → length (body_in (sought_at count image n)) ≤ 32768
+
+-- the first equation shows the variables to tactics
+pub asked : (image : List ℕ) (count sum : ℕ) → (holds image count sum ≡ holds image count sum) × (holds image count sum ≡ true → Answered image count)
+asked image count sum = (
+  refl,
+  λ h. record {
+    next = asked_next image count sum h;
+    file = λ n. told_file n (sought_at count image n) _ (asked_file image count sum h n);
+    bytes = λ n. told_bytes n (sought_at count image n) _ (asked_file image count sum h n);
+    short = λ n. short_bytes n (lookup n (held image).files) refl (asked_file image count sum h n);
+  },
+)
   where
-    by : (r : Result Contents SpoiltImage) → Ok l ≡ ok_by layout_of r → (accepted_with r l.count l.total ≡ true) × (Ok tt ≡ verdict_of r)
-    by (Ok c) e =
-        let q = ok_same e in
-        (and_from _ _ (eq-eqb (length c.files) l.count (ap (λ x. x.count) (sym q))) (eq-eqb (total c.files) l.total (ap (λ x. x.total) (sym q))), refl)
-    by (Err y) e = absurd (err_ok (sym e))
+    short_bytes : (n : ℕ) (f : Option File) → lookup n (held image).files ≡ f → Told n (sought_at count image n) f → length (body_in (sought_at count image n)) ≤ 32768
+    short_bytes n None q t = subst (λ b. length b ≤ 32768) (told_bytes n (sought_at count image n) None t) (omega arith)
+    short_bytes n (Some f) q t = subst (λ b. length b ≤ 32768) (told_bytes n (sought_at count image n) (Some f) t) ((held_sound image).lengths n f q)
 
-pub layout_refused : (image : List ℕ) (y : SpoiltImage) → Err y ≡ ok_by layout_of (parsed image) → (held image ≡ full_of []) × (Err y ≡ verdict_of (parsed image))
-layout_refused image y e = by (parsed image) e
+-- an accepted list of bytes is the image of what it holds; the first equation is for tactics, as above
+pub held_image : (image : List ℕ) → (held image ≡ held image) × (((i : ℕ) → Fits w8 (get_or image i 0)) → IsOk (ok_by layout_of (parsed image)) → IsImage image (held image))
+held_image image = (refl, λ fits. by (parsed image) refl (All-from_get_or (λ b. b < 256) image 0 (λ i l. omega (arith, (fits i).fits))))
   where
-    by : (r : Result Contents SpoiltImage) → Err y ≡ ok_by layout_of r → (held_by r ≡ full_of []) × (Err y ≡ verdict_of r)
-    by (Ok c) e = absurd (err_ok e)
-    by (Err z) e = (refl, ap Err (err_same e))
-
--- the empty image holds nothing
-pub empty_held : parsed [] ≡ Ok (full_of [])
-unfolding parsed files_from
-empty_held = refl
-
--- a record that was found, and one that was not
-module _ (image : List ℕ) (count sum n : ℕ) (h : holds image count sum ≡ true) where
-  pub told_some : (p : Plain) → Some p ≡ sought_at count image n → (f : File) × (lookup n (held image).files ≡ Some f) × Lies p (record { number = n; file = f })
-  told_some p e = by (lookup n (held image).files) refl (subst (λ o. Told n o (lookup n (held image).files)) (sym e) (asked_file image count sum h n))
-    where
-      by : (o : Option File) → lookup n (held image).files ≡ o → Told n (Some p) o → (f : File) × (lookup n (held image).files ≡ Some f) × Lies p (record { number = n; file = f })
-      by None q t = absurd t
-      by (Some f) q t = (f, q, t)
-
-  pub told_none : None ≡ sought_at count image n → lookup n (held image).files ≡ None
-  told_none e = by (lookup n (held image).files) (subst (λ o. Told n o (lookup n (held image).files)) (sym e) (asked_file image count sum h n))
-    where
-      by : (o : Option File) → Told n None o → o ≡ None
-      by None t = refl
-      by (Some f) t = absurd t
-
-  pub body_short : (p : Plain) → Some p ≡ sought_at count image n → length p.body ≤ 32768
-  body_short p e =
-      let t = told_some p e in
-      let l = (held_sound image).lengths n t.0 t.1 in
-      subst (λ b. length b ≤ 32768) (sym t.2.body) l
-
--- what a store tells of a file that lies there
-pub info_told : (p : Plain) (n : ℕ) (f : File) (name : Name) → Lies p (record { number = n; file = f }) → Some name ≡ name_in p.name
-    → ◌≡◌ {A = FileInfo} (record { format = p.head.format; protection = ReadOnly; parent = p.head.parent; name = name; length = length p.body }) (info_of f)
-info_told p n f name l e =
-    let same : name ≡ f.name = some_same (e ∙ l.name) in
-    λ i. record { format = (l.head i).format; protection = sym l.protected i; parent = (l.head i).parent; name = same i; length = length (l.body i) }
-
--- an accepted list of bytes is the image of what it holds
-pub held_image : (image : List ℕ) (l : Layout) → Bytes image → Ok l ≡ ok_by layout_of (parsed image) → IsImage image (held image)
-held_image image l b e = by (parsed image) refl e
-  where
-    by : (r : Result Contents SpoiltImage) → parsed image ≡ r → Ok l ≡ ok_by layout_of r → IsImage image (held_by r)
-    by (Ok c) q e = let a = accepted image c q in subst (IsImage image) (sym a.1 ∙ ap (λ d. full_of d.files) a.1) (accepted_image image c b q)
-    by (Err y) q e = absurd (err_ok (sym e))
+    by : (r : Result Contents SpoiltImage) → parsed image ≡ r → Bytes image → IsOk (ok_by layout_of r) → IsImage image (held_by r)
+    by (Ok c) q b o =
+        let a = accepted image c q in
+        subst (IsImage image) (sym a.1 ∙ ap (λ d. full_of d.files) a.1) (accepted_image image c b q)
+    by (Err y) q b o = absurd (false≢true o)

@@ -17,13 +17,13 @@ use Rattle.image_format.specs.declared.field.Head.{Head}
 use Rattle.image_format.proofs.Entries.{lookup_low, total_push}
 use Rattle.image_format.proofs.Fields.{field_cut, cut_field_of, head_read, head_there}
 use Rattle.image_format.proofs.Front.{Front, front_none, front_push, front_sound, right}
-use Rattle.image_format.proofs.Inverted.{head_of, FileRead, file_read, ok_same, err_ok, read_there, checked_there, file_from, headed, named, body_read, whole}
+use Rattle.image_format.proofs.Inverted.{head_of, FileRead, file_read, read_there, checked_there, file_from, headed, named, body_read, whole}
 use Rattle.image_format.proofs.Walked.{Walked, walked_push, file_next}
-use Rattle.image_format.proofs.Opening.{from_none, from_more, from_full, err_same}
+use Rattle.image_format.proofs.Opening.{from_none, from_more, from_full}
 
 and_then_ok : {A B E : Type 0} (r : Result A E) (f : A → Result B E) (y : B) → and_then r f ≡ Ok y → (x : A) × (r ≡ Ok x) × (f x ≡ Ok y)
 and_then_ok (Ok x) f y e = (x, refl, e)
-and_then_ok (Err z) f y e = absurd (err_ok e)
+and_then_ok (Err z) f y e = cc
 
 -- a file that was read is its fields
 read_fields : (test : Head → Bool) (rest : List ℕ) (e : Entry) (behind : List ℕ) → Bytes rest → FileRead test rest e behind → (rest ≡ file_fields e ++ behind) × Bytes behind
@@ -51,13 +51,13 @@ pub record FilesRead (es : List Entry) (rest : List ℕ) (out : List Entry) : Ty
 
 all_read : (k size : ℕ) (es : List Entry) (rest : List ℕ) (out : List Entry) → length es + k ≡ 1024 → Front es → total es ≤ 32768 * length es → eqb (length rest) 0 ≡ true → files_from k size es rest ≡ Ok out → FilesRead es rest out
 all_read k size es rest out l s t e q =
-    let same : es ≡ out = ok_same (sym (from_none size es rest k e) ∙ q) in
+    let same : es ≡ out = cc (from_none size es rest k e) in
     let none : rest ≡ [] = nil_from_length rest (eqb-true (length rest) 0 e) in
     subst (FilesRead es rest) same (record { front = s; few = omega arith; small = t; fields = λ _. ([], sym (append-nil es), none); walks = λ image w. subst (Walked image es) none w })
 
 files_read : (k size : ℕ) (es : List Entry) (rest : List ℕ) (out : List Entry) → length es + k ≡ 1024 → Front es → total es ≤ 32768 * length es → files_from k size es rest ≡ Ok out → FilesRead es rest out
 files_read zero size es rest out l s t q =
-    ⊎_elim (λ e. all_read zero size es rest out l s t e q) (λ e. absurd (err_ok (sym (from_full size es rest zero refl e) ∙ q))) (cases_Bool (eqb (length rest) 0))
+    ⊎_elim (λ e. all_read zero size es rest out l s t e q) (λ e. cc (from_full size es rest zero refl e)) (cases_Bool (eqb (length rest) 0))
 files_read (suc k) size es rest out l s t q =
     ⊎_elim (λ e. all_read (suc k) size es rest out l s t e q)
     (λ e.
@@ -86,7 +86,7 @@ pub accepted : (image : List ℕ) (c : Contents) → parsed image ≡ Ok c → (
 unfolding parsed
 accepted image c e =
     let p = and_then_ok (files_from 1024 (length image) [] image) (λ es. Ok (full_of es)) c e in
-    (p.0, ok_same p.2, files_read 1024 (length image) [] image p.0 (omega arith) front_none (omega arith) p.1)
+    (p.0, cc p.2, files_read 1024 (length image) [] image p.0 (omega arith) front_none (omega arith) p.1)
 
 -- the store of the files that were accepted
 pub accepted_full : (image : List ℕ) (c : Contents) → parsed image ≡ Ok c → Sound (full_of c.files)
@@ -197,7 +197,9 @@ image_accepted image c i =
     ∙ (λ j. Ok (record { capacity = sym i.capacity_is_total j; limit = sym i.limit_is_count j; files = c.files }))
 
 need_err : {A B : Type 0} (size : ℕ) (rest : List ℕ) (o : Option A) (go : A → Result B SpoiltImage) (e : SpoiltImage) → ((x : A) → go x ≡ Err e → e.place ≤ size) → need size rest o go ≡ Err e → e.place ≤ size
-need_err size rest None go e later q = let z : size - length rest ≡ e.place = ap (λ y. y.place) (err_same q) in omega arith
+need_err size rest None go e later q =
+    let same : record { place = size - length rest } ≡ e = cc in
+    let z : size - length rest ≡ e.place = ap (λ y. y.place) same in omega arith
 need_err size rest (Some x) go e later q = later x q
 
 -- the place of a refusal
@@ -205,28 +207,30 @@ file_place : (test : Head → Bool) (size : ℕ) (rest : List ℕ) (e : SpoiltIm
 file_place test size rest e q =
     need_err size rest (read_field head_tag (λ bs. checked test (head_in bs)) rest) (headed size) e
     (λ h. need_err size h.1 (read_field name_tag name_in h.1) (named size h) e
-    (λ n. need_err size n.1 (body_read h n.1) (whole h n) e (λ b r. absurd (err_ok (sym r))))) q
+    (λ n. need_err size n.1 (body_read h n.1) (whole h n) e (λ b r. (cc)))) q
 
 files_place : (k size : ℕ) (es : List Entry) (rest : List ℕ) (e : SpoiltImage) → files_from k size es rest ≡ Err e → e.place ≤ size
 files_place zero size es rest e q =
-    ⊎_elim (λ t. absurd (err_ok (sym q ∙ from_none size es rest zero t)))
-    (λ f. let z : size - length rest ≡ e.place = ap (λ y. y.place) (err_same (sym (from_full size es rest zero refl f) ∙ q)) in omega arith) (cases_Bool (eqb (length rest) 0))
+    ⊎_elim (λ t. cc (from_none size es rest zero t))
+    (λ f.
+    let same : record { place = size - length rest } ≡ e = cc (from_full size es rest zero refl f) in
+    let z : size - length rest ≡ e.place = ap (λ y. y.place) same in omega arith) (cases_Bool (eqb (length rest) 0))
 files_place (suc k) size es rest e q =
-    ⊎_elim (λ t. absurd (err_ok (sym q ∙ from_none size es rest (suc k) t)))
+    ⊎_elim (λ t. cc (from_none size es rest (suc k) t))
     (λ f. further (λ es rest q. files_place k size es rest e q) (file_by (right_head es) size rest) refl (sym (from_more size es rest (suc k) k refl f) ∙ q)) (cases_Bool (eqb (length rest) 0))
   where
     further : ((es : List Entry) (rest : List ℕ) → files_from k size es rest ≡ Err e → e.place ≤ size)
         → (r : Result (Entry × List ℕ) SpoiltImage) → file_by (right_head es) size rest ≡ r → and_then r (λ f. files_from k size (es ++ (f.0 ∷ [])) f.1) ≡ Err e → e.place ≤ size
     further more (Ok f) p q = more (es ++ (f.0 ∷ [])) f.1 q
-    further more (Err y) p q = file_place (right_head es) size rest e (p ∙ ap Err (err_same q))
+    further more (Err y) p q = file_place (right_head es) size rest e (p ∙ cc)
 
 refused_place : (image : List ℕ) (e : SpoiltImage) → parsed image ≡ Err e → e.place ≤ length image
 unfolding parsed
 refused_place image e q = by (files_from 1024 (length image) [] image) refl q
   where
     by : (r : Result (List Entry) SpoiltImage) → files_from 1024 (length image) [] image ≡ r → and_then r (λ es. Ok (full_of es)) ≡ Err e → e.place ≤ length image
-    by (Ok es) p q = absurd (err_ok (sym q))
-    by (Err y) p q = files_place 1024 (length image) [] image e (p ∙ ap Err (err_same q))
+    by (Ok es) p q = cc
+    by (Err y) p q = files_place 1024 (length image) [] image e (p ∙ cc)
 
 pub image_laws : ImageLaws
 image_laws =

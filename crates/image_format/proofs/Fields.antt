@@ -2,10 +2,11 @@
 use Rattle.std.proofs.Common.{◌≡◌, ℕ, ◌%◌, ◌^◌, ◌<◌, Bool, true, false, cond, eqb, List, [], ◌∷◌, ◌++◌, length, Some, None, Option, sym, refl, ap, ◌∙◌, subst, arith}
 use Rattle.std.specs.Option.{option_map}
 use Rattle.std.proofs.lemmas.List.{append_assoc, append-nil, nil_from_length}
+use Rattle.std.proofs.lemmas.Option.{same_Some}
 use Rattle.std.proofs.lemmas.Bool.{eqb-true, eq-eqb, cond-true}
 use Rattle.byte_parts.specs.Numbers.{Bytes, le, cut_number}
 use Rattle.byte_parts.specs.Parts.{cut_part}
-use Rattle.byte_parts.proofs.Cutting.{none_some, some_same, part_cut, cut_front, number_cut, cut_le}
+use Rattle.byte_parts.proofs.Cutting.{part_cut, cut_front, number_cut, cut_le}
 use Rattle.object.specs.Formats.{format_number, formats, format_of}
 use Rattle.object.specs.Numbered.{with_number}
 use Rattle.object.specs.declared.format.Format.{Format}
@@ -35,7 +36,7 @@ cut_some t tag rest content behind e = by (eqb t tag) refl e
   where
     by : (u : Bool) → eqb t tag ≡ u → cond u (bind (cut_number 2 rest) (λ n. cut_part n.0 n.1)) None ≡ Some (content, behind) → (t ≡ tag) × (bind (cut_number 2 rest) (λ n. cut_part n.0 n.1) ≡ Some (content, behind))
     by true q e = (eqb-true t tag q, e)
-    by false q e = absurd (none_some e)
+    by false q e = cc
 
 pub field_cut : (tag : ℕ) (bs content behind : List ℕ) → tag < 256 → Bytes bs → cut_field tag bs ≡ Some (content, behind) → Field tag bs content behind
 field_cut tag bs content behind small h e =
@@ -72,11 +73,11 @@ cut_field_of tag content behind small short =
 
 -- a format has its number
 numbered : {A : Type 0} (number : A → ℕ) (xs : List A) (n : ℕ) (x : A) → with_number number xs n ≡ Some x → number x ≡ n
-numbered number [] n x e = absurd (none_some e)
+numbered number [] n x e = cc
 numbered number (y ∷ ys) n x e = by (λ r. numbered number ys n x r) (eqb n (number y)) refl e
   where
     by : (with_number number ys n ≡ Some x → number x ≡ n) → (t : Bool) → eqb n (number y) ≡ t → cond t (Some y) (with_number number ys n) ≡ Some x → number x ≡ n
-    by rest true q e = ap number (sym (some_same e)) ∙ sym (eqb-true n (number y) q)
+    by rest true q e = ap number (sym (same_Some y x e)) ∙ sym (eqb-true n (number y) q)
     by rest false q e = rest e
 
 format_there : (f : Format) → format_of (format_number f) ≡ Some f
@@ -100,7 +101,7 @@ number_read n = bind (cut_number 4 n.1) (parent_read n.0)
 
 cond_some : {A : Type 0} (t : Bool) (o : Option A) (x : A) → cond t o None ≡ Some x → (t ≡ true) × (o ≡ Some x)
 cond_some true o x e = (refl, e)
-cond_some false o x e = absurd (none_some e)
+cond_some false o x e = cc
 
 pub head_read : (content : List ℕ) (h : Head) → Bytes content → head_in content ≡ Some h → content ≡ le 4 h.number ++ (le 4 h.parent ++ le 2 (format_number h.format))
 head_read content h b e =

@@ -1,7 +1,6 @@
 -- The files at the front of an image: what every one of them keeps to, and that one more does.
 use Rattle.std.proofs.Common.{◌≡◌, ℕ, ◌*◌, ◌<◌, ◌≤◌, Bool, true, false, cond, not, ◌||◌, eqb, ltb, leb, ◌⊎◌, List, [], ◌∷◌, ◌++◌, length, Some, None, Option, refl, ap, ◌∙◌, subst, inl, inr, ⊎_elim, arith}
 use Rattle.std.proofs.lemmas.Bool.{and_parts, ltb-true, leb-true, eqb-true, or_cases, or_left, or_right, false≢true}
-use Rattle.byte_parts.proofs.Cutting.{none_some, some_same}
 use Rattle.object.specs.Formats.{is_folder}
 use Rattle.object.specs.declared.protection.Protection.TheVariants.{ReadOnly}
 use Rattle.store.specs.Contents.{File, Entry, total, lookup}
@@ -23,12 +22,12 @@ pub front_none : Front []
 front_none =
     record {
       ascending = tt;
-      numbers = λ n f e. absurd (none_some e);
-      lengths = λ n f e. absurd (none_some e);
-      folders_empty = λ n f e. absurd (none_some e);
-      parents = λ n f e. absurd (none_some e);
-      parents_below = λ n f e. absurd (none_some e);
-      protected = λ n f e. absurd (none_some e);
+      numbers = λ n f e. cc;
+      lengths = λ n f e. cc;
+      folders_empty = λ n f e. cc;
+      parents = λ n f e. cc;
+      parents_below = λ n f e. cc;
+      protected = λ n f e. cc;
     }
 
 -- a file that is found in a longer list was there, or is the new one
@@ -36,7 +35,7 @@ pub lookup_push : (n : ℕ) (f : File) (es : List Entry) (e : Entry) → lookup 
 lookup_push n f [] e q = by (eqb e.number n) refl q
   where
     by : (t : Bool) → eqb e.number n ≡ t → cond t (Some e.file) None ≡ Some f → (None ≡ Some f) ⊎ ((e.number ≡ n) × (e.file ≡ f))
-    by true r q = inr (eqb-true e.number n r, some_same q)
+    by true r q = inr (eqb-true e.number n r, cc)
     by false r q = inl q
 lookup_push n f (x ∷ es) e q = by (λ r. lookup_push n f es e r) (eqb x.number n) q
   where
@@ -47,7 +46,7 @@ lookup_push n f (x ∷ es) e q = by (λ r. lookup_push n f es e r) (eqb x.number
 
 -- a file that is there stays found
 pub lookup_longer : (n : ℕ) (f : File) (es more : List Entry) → lookup n es ≡ Some f → lookup n (es ++ more) ≡ Some f
-lookup_longer n f [] more q = absurd (none_some q)
+lookup_longer n f [] more q = cc
 lookup_longer n f (x ∷ es) more q = by (λ r. lookup_longer n f es more r) (eqb x.number n) q
   where
     by : (lookup n es ≡ Some f → lookup n (es ++ more) ≡ Some f) → (t : Bool) → cond t (Some x.file) (lookup n es) ≡ Some f → cond t (Some x.file) (lookup n (es ++ more)) ≡ Some f
@@ -69,7 +68,7 @@ parent_longer n es more e =
 
 -- no file has a larger number than the last
 pub found_last : (lo n : ℕ) (f : File) (es : List Entry) → Ascending lo es → lookup n es ≡ Some f → (lo < n) × (n ≤ last_of lo es)
-found_last lo n f [] a q = absurd (none_some q)
+found_last lo n f [] a q = cc
 found_last lo n f (x ∷ es) a q = by (λ r. found_last x.number n f es a.1 r) (last_least x.number es a.1) (eqb x.number n) refl q
   where
     last_least : (m : ℕ) (ys : List Entry) → Ascending m ys → m ≤ last_of m ys

@@ -1,7 +1,7 @@
 -- What a reading that went well tells of the bytes.
-use Rattle.std.proofs.Common.{◌≡◌, ℕ, Bool, true, cond, List, Some, None, Ok, Err, Option, Result, refl, ap, ◌∙◌, subst, arith}
+use Rattle.std.proofs.Common.{◌≡◌, ℕ, Bool, true, cond, List, Some, None, Ok, Option, Result, refl, ap, ◌∙◌, subst}
 use Rattle.std.specs.Option.{option_map}
-use Rattle.byte_parts.proofs.Cutting.{none_some, some_same, through}
+use Rattle.std.proofs.lemmas.Option.{cond_some}
 use Rattle.object.specs.Names.{name_in}
 use Rattle.object.specs.declared.name.Name.{Name}
 use Rattle.object.specs.declared.protection.Protection.TheVariants.{ReadOnly}
@@ -11,27 +11,21 @@ use Rattle.image_format.specs.Parsed.{bind, cut_field, read_field, head_in, chec
 use Rattle.image_format.specs.declared.fault.SpoiltImage.{SpoiltImage}
 use Rattle.image_format.specs.declared.field.Head.{Head}
 
-pub ok_same : {A E : Type 0} {x y : A} → ◌≡◌ {A = Result A E} (Ok x) (Ok y) → x ≡ y
-ok_same e = cc
-
-pub err_ok : {A E : Type 0} {e : E} {x : A} → ◌≡◌ {A = Result A E} (Err e) (Ok x) → ⊥
-err_ok e = let z : ◌≡◌ {A = ℕ} 0 1 = cc in omega arith
-
 pub bind_some : {A B : Type 0} (o : Option A) (f : A → Option B) (y : B) → bind o f ≡ Some y → (x : A) × (o ≡ Some x) × (f x ≡ Some y)
-bind_some None f y e = absurd (none_some e)
+bind_some None f y e = cc
 bind_some (Some x) f y e = (x, refl, e)
 
 pub mapped_some : {A B : Type 0} (o : Option A) (f : A → B) (y : B) → option_map f o ≡ Some y → (x : A) × (o ≡ Some x) × (f x ≡ y)
-mapped_some None f y e = absurd (none_some e)
-mapped_some (Some x) f y e = (x, refl, some_same e)
+mapped_some None f y e = cc
+mapped_some (Some x) f y e = (x, refl, cc)
 
 pub checked_some : {A : Type 0} (test : A → Bool) (o : Option A) (x : A) → checked test o ≡ Some x → (o ≡ Some x) × (test x ≡ true)
-checked_some test None x e = absurd (none_some e)
+checked_some test None x e = cc
 checked_some test (Some y) x e =
-    let p = through (test y) y x e in (ap Some p.1, subst (λ z. test z ≡ true) p.1 p.0)
+    let p = cond_some (test y) y x e in (ap Some p.1, subst (λ z. test z ≡ true) p.1 p.0)
 
 need_ok : {A B : Type 0} (size : ℕ) (rest : List ℕ) (o : Option A) (go : A → Result B SpoiltImage) (y : B) → need size rest o go ≡ Ok y → (x : A) × (o ≡ Some x) × (go x ≡ Ok y)
-need_ok size rest None go y e = absurd (err_ok e)
+need_ok size rest None go y e = cc
 need_ok size rest (Some x) go y e = (x, refl, e)
 
 -- a field that was read, with its content
@@ -85,6 +79,7 @@ file_read test size rest e behind q =
     let z = read_some body_tag (λ bs. checked (right_body h.0.format) (Some bs)) n.1 d.0.0 d.0.1 d.1 in
     let hc = checked_some test (head_in x.0) h.0 x.2 in
     let bc = checked_some (right_body h.0.format) (Some z.0) d.0.0 z.2 in
+    let same : z.0 ≡ d.0.0 = cc bc.0 in
     let all : FileRead test rest (entry_of h.0 n.0 d.0.0) d.0.1 =
     record {
       head_content = x.0;
@@ -96,11 +91,12 @@ file_read test size rest e behind q =
       head_right = hc.1;
       name_cut = y.1;
       name_is = y.2;
-      body_cut = z.1 ∙ ap (λ c. Some (c, d.0.1)) (some_same bc.0);
+      body_cut = z.1 ∙ ap (λ c. Some (c, d.0.1)) same;
       body_right = bc.1;
       protected = refl;
     } in
-    subst (λ p. FileRead test rest p.0 p.1) (ok_same d.2) all
+    let out : ◌≡◌ {A = Entry × List ℕ} (entry_of h.0 n.0 d.0.0, d.0.1) (e, behind) = cc d.2 in
+    subst (λ p. FileRead test rest p.0 p.1) out all
 
 -- and the way back: three fields that are read are a file
 pub read_there : {A : Type 0} (tag : ℕ) (read : List ℕ → Option A) (bs content behind : List ℕ) (x : A) → cut_field tag bs ≡ Some (content, behind) → read content ≡ Some x → read_field tag read bs ≡ Some (x, behind)

@@ -9,7 +9,7 @@ use Rattle.image_format.specs.Walk.{Plain, sought, numbered, sought_at, folder_s
 use Rattle.image_format.specs.declared.fault.SpoiltImage.{SpoiltImage}
 use Rattle.image_format.specs.declared.layout.Layout.{Layout}
 use Rattle.image_format.proofs.Entries.{first_above, file_numbered, lookup_first, last_push, total_push, ascending_push}
-use Rattle.image_format.proofs.Inverted.{head_of, file_read, ok_same, err_ok}
+use Rattle.image_format.proofs.Inverted.{head_of, file_read}
 use Rattle.image_format.proofs.Walked.{Walked, walked_push, Finds, sought_walked, file_next}
 
 -- the walk finds a folder where looking up does
@@ -44,10 +44,6 @@ pub record Sofar (image rest : List ℕ) (count last sum : ℕ) : Type 0 where
   pub bound : sum ≤ 32768 * count
   pub goes : files_from (1024 - count) (length image) files rest ≡ files_from 1024 (length image) [] image
 
-pub sofar_none : (image : List ℕ) → Sofar image image 0 0 0
-sofar_none image =
-    record { files = []; walked = refl; ascending = tt; counted = refl; lasts = refl; sums = refl; bound = omega arith; goes = refl }
-
 module _ (size : ℕ) (es : List Entry) (rest : List ℕ) where
   -- nothing is left
   pub from_none : (k : ℕ) → eqb (length rest) 0 ≡ true → files_from k size es rest ≡ Ok es
@@ -78,17 +74,14 @@ unfolding parsed
 parsed_answer image = refl
 
 ok_by_ok : {A B E : Type 0} (f : A → B) (r : Result A E) (y : B) → Ok y ≡ ok_by f r → (x : A) × (r ≡ Ok x) × (f x ≡ y)
-ok_by_ok f (Ok x) y e = (x, refl, ok_same (sym e))
-ok_by_ok f (Err z) y e = absurd (err_ok (sym e))
-
-pub err_same : {A E : Type 0} {x y : E} → ◌≡◌ {A = Result A E} (Err x) (Err y) → x ≡ y
-err_same e = cc
+ok_by_ok f (Ok x) y e = (x, refl, cc)
+ok_by_ok f (Err z) y e = cc
 
 ok_by_err : {A B E : Type 0} (f : A → B) (r : Result A E) (y : E) → Err y ≡ ok_by f r → r ≡ Err y
-ok_by_err f (Ok x) y e = absurd (err_ok e)
-ok_by_err f (Err z) y e = ap Err (err_same (sym e))
+ok_by_err f (Ok x) y e = cc
+ok_by_err f (Err z) y e = cc
 
-module _ (image rest : List ℕ) (count last sum : ℕ) (s : Sofar image rest count last sum) where
+module _ {image rest : List ℕ} {count last sum : ℕ} (s : Sofar image rest count last sum) where
   -- nothing is left: this is all
   pub sofar_all : eqb (length rest) 0 ≡ true → Ok (record { count = count; total = sum }) ≡ ok_by layout_of (parsed image)
   sofar_all e =

@@ -1,5 +1,5 @@
 -- The walk over an image, as the code goes: not what is promised, but what the promises are proved from.
-use Rattle.std.specs.Prelude.{ℕ, zero, suc, ◌-◌, Bool, false, cond, ◌&&◌, ◌||◌, List, length, Some, None, Ok, Err, Option, Result, ◌==◌, nat_le, nat_lt}
+use Rattle.std.specs.Prelude.{ℕ, zero, suc, ◌-◌, Bool, false, cond, ◌&&◌, ◌||◌, List, [], ◌∷◌, length, Some, None, Ok, Err, Option, Result, ◌==◌, nat_le, nat_lt}
 use Rattle.std.specs.Borrow.{Bor}
 use Rattle.object.specs.Formats.{is_folder}
 use Rattle.object.specs.declared.name.Name.{Name}
@@ -26,6 +26,16 @@ abbrev pub cut_record : List ℕ → Option (Plain × List ℕ)
 cut_record bs =
     bind (cut_field head_tag bs) (λ h. bind (head_in h.0) (λ head. bind (cut_field name_tag h.1) (λ n. bind (cut_field body_tag n.1) (λ b.
     Some (record { head = head; name = n.0; body = b.0 }, b.1)))))
+
+-- what was cut off the front, before what is read of the rest
+abbrev pub followed : Option (Plain × List ℕ) → (List ℕ → List Plain) → List Plain
+followed None go = []
+followed (Some f) go = f.0 ∷ go f.1
+
+-- the first k files
+abbrev pub records : ℕ → List ℕ → List Plain
+records zero bs = []
+records (suc k) bs = followed (cut_record bs) (records k)
 
 -- the first of the first k files whose number is above n
 abbrev pub sought : ℕ → List ℕ → ℕ → Option Plain

@@ -3,7 +3,7 @@ ghost use Rattle.std.specs.Prelude.{◌≡◌};
 ghost use Rattle.image_format.specs.Refusal.{spoilt_image_number};
 
 /// A spoilt image: the place of the first wrong field's tag, or the image's length where a field is missing.
-#[derive(Clone, Copy)]
+#[derive(Clone, Copy, Debug, PartialEq, Eq)]
 pub struct SpoiltImage {
     pub place: usize,
 }

@@ -2,15 +2,18 @@
 ghost use Rattle.std.specs.Prelude.{◌≡◌, ◌≤◌, length};
 ghost use Rattle.std.specs.Option.{option_map};
 ghost use Rattle.image_format.specs.Parsed.{cut_field, head_in};
+ghost use Rattle.image_format.specs.Tags.{tag_number};
 
-use byte_parts::cut::{cut, cut_u8, cut_u16, cut_u32};
+use byte_parts::cut::{cut, cut_number};
 use object::format::Format;
 
-pub const HEAD: u8 = 0x01;
-
-pub const NAME: u8 = 0x02;
-
-pub const BODY: u8 = 0x03;
+/// The tags of a file's three fields.
+#[derive(Clone, Copy)]
+pub enum Tag {
+    Head = 0x01,
+    Name = 0x02,
+    Body = 0x03,
+}
 
 /// What a file's first field says.
 #[derive(Clone, Copy)]
@@ -21,14 +24,14 @@ pub struct Head {
 }
 
 /// The content of the field at the front and what lies behind it, or `None` if no whole field with this tag is there.
-pub fn cut_field(tag: u8, bytes: &[u8]) -> Option<(&[u8], &[u8])>
-    ensures value { option_map (λ p. (p.0.now, p.1.now)) result ≡ cut_field tag bytes.now }
+pub fn cut_field(tag: Tag, bytes: &[u8]) -> Option<(&[u8], &[u8])>
+    ensures { option_map (λ p. (p.0.now, p.1.now)) result ≡ cut_field (tag_number tag) bytes.now }
 {
-    let (found, rest) = cut_u8(bytes)?;
-    if found != tag {
+    let (found, rest) = cut_number::<u8>(bytes)?;
+    if found != tag as u8 {
         return None;
     }
-    let (len, rest) = cut_u16(rest)?;
+    let (len, rest) = cut_number::<u16>(rest)?;
     cut(rest, len as usize)
 }
 
@@ -36,13 +39,13 @@ pub fn cut_field(tag: u8, bytes: &[u8]) -> Option<(&[u8], &[u8])>
 pub fn head_in(content: &[u8]) -> Option<Head>
     ensures { result ≡ head_in content.now }
 {
-    let (number, rest) = cut_u32(content)?;
-    let (parent, rest) = cut_u32(rest)?;
-    let (format, rest) = cut_u16(rest)?;
+    let (number, rest) = cut_number(content)?;
+    let (parent, rest) = cut_number(rest)?;
+    let (format, rest) = cut_number::<u16>(rest)?;
     if !rest.is_empty() {
         return None;
     }
-    let format = Format::from_number(format)?;
+    let format = Format::try_from(format).ok()?;
     Some(Head {
         number,
         parent,

@@ -1,5 +1,5 @@
 //! Reading an image whole: how much it holds, or where it is wrong.
-ghost use Rattle.std.specs.Prelude.{◌≡◌, ◌≤◌, length, IfSome, IfOk, Some};
+ghost use Rattle.std.specs.Prelude.{◌≡◌, ◌-◌, ◌≤◌, length, IfSome, IfOk, Some};
 ghost use Rattle.std.specs.Option.{option_map};
 ghost use Rattle.image_format.specs.Encoded.{head_tag, name_tag, body_tag};
 ghost use Rattle.image_format.specs.Parsed.{read_field, checked, head_in, right_body, file_by, parsed};
@@ -7,54 +7,18 @@ ghost use Rattle.image_format.specs.Walk.{right_behind, folder_sought, sought_at
 ghost use Rattle.object.specs.Names.{name_in};
 
 use crate::fault::SpoiltImage;
-use crate::field::{BODY, HEAD, Head, NAME, cut_field, head_in};
+use crate::field::{Head, Tag, cut_field, head_in};
 use crate::layout::Layout;
 use crate::seek::find;
 use object::format::Format;
 use object::name::Name;
-
-const LAST_NUMBER: u32 = 0x7fff_fffe;
-
-const MAX_LENGTH: usize = 32768;
-
-const MAX_FILES: u32 = 1024;
-
-/// Whether one of the first `count` files is the folder `number`.
-fn has_folder(image: &[u8], count: u32, number: u32) -> bool
-    ensures { result ≡ folder_sought (sought_at count image.now number) }
-{
-    match find(image, count, number) {
-        Some(record) => record.head.format.is_folder(),
-        None => false,
-    }
-}
-
-/// Whether a head is right behind `count` files, the last of which has the number `last`.
-fn is_right_head(image: &[u8], count: u32, last: u32, head: Head) -> bool
-    ensures { result ≡ right_behind image.now count last head }
-{
-    head.number > last
-        && head.number <= LAST_NUMBER
-        && (head.parent == 0 || has_folder(image, count, head.parent))
-}
-
-/// The head at the front of `rest`, if it is right.
-fn head_at<'a>(image: &[u8], count: u32, last: u32, rest: &'a [u8]) -> Option<(Head, &'a [u8])>
-    ensures { option_map (λ p. (p.0, p.1.now)) result ≡ read_field head_tag (λ bs. checked (right_behind image.now count last) (head_in bs)) rest.now }
-{
-    let (content, behind) = cut_field(HEAD, rest)?;
-    let head = head_in(content)?;
-    if !is_right_head(image, count, last, head) {
-        return None;
-    }
-    Some((head, behind))
-}
+use store::limits::{LAST_NUMBER, MAX_FILES, MAX_LENGTH};
 
 /// What lies behind the name at the front of `rest`, if it is legal.
 fn behind_name(rest: &[u8]) -> Option<&[u8]>
     ensures { option_map (λ x. x.now) result ≡ option_map behind (read_field name_tag name_in rest.now) }
 {
-    let (content, behind) = cut_field(NAME, rest)?;
+    let (content, behind) = cut_field(Tag::Name, rest)?;
     Name::from_bytes(content)?;
     Some(behind)
 }
@@ -64,7 +28,7 @@ fn body_at(format: Format, rest: &[u8]) -> Option<(u32, &[u8])>
     ensures value { option_map (λ p. (p.0, p.1.now)) result ≡ option_map measured (read_field body_tag (λ bs. checked (right_body format) (Some bs)) rest.now) }
     ensures bound { IfSome result (λ p. p.0 ≤ 32768) }
 {
-    let (content, behind) = cut_field(BODY, rest)?;
+    let (content, behind) = cut_field(Tag::Body, rest)?;
     let length = content.len();
     if length > MAX_LENGTH || (format.is_folder() && length != 0) {
         return None;
@@ -72,33 +36,62 @@ fn body_at(format: Format, rest: &[u8]) -> Option<(u32, &[u8])>
     Some((length as u32, behind))
 }
 
-/// The number and the length of the file at the front of `rest`, and what lies behind it, or the place of its first wrong field.
-fn file_at<'a>(
-    image: &[u8],
+/// The files at the front of an image that were read: how many, and the number of the last, which is 0 if there is none.
+#[derive(Clone, Copy)]
+struct Front<'a> {
+    image: &'a [u8],
     count: u32,
     last: u32,
-    rest: &'a [u8],
-) -> Result<(u32, u32, &'a [u8]), SpoiltImage>
-    ensures value { seen result ≡ ok_by summed (file_by (right_behind image.now count last) (length image.now) rest.now) }
-    ensures bound { IfOk result (λ p. p.1 ≤ 32768) }
+}
+
+impl Front<'_> {
+    /// Whether one of the files is the folder `number`.
+    fn has_folder(&self, number: u32) -> bool
+        ensures { result ≡ folder_sought (sought_at self.now.count self.now.image.now number) }
+    {
+        find(self.image, self.count, number).is_some_and(|record| record.head.format.is_folder())
+    }
+
+    /// Whether a head is right behind the files.
+    fn is_right_head(&self, head: Head) -> bool
+        ensures { result ≡ right_behind self.now.image.now self.now.count self.now.last head }
+    {
+        head.number > self.last
+            && head.number <= LAST_NUMBER
+            && (head.parent == 0 || self.has_folder(head.parent))
+    }
+
+    /// The head at the front of `rest`, if it is right.
+    fn head_at<'b>(&self, rest: &'b [u8]) -> Option<(Head, &'b [u8])>
+        ensures { option_map (λ p. (p.0, p.1.now)) result ≡ read_field head_tag (λ bs. checked (right_behind self.now.image.now self.now.count self.now.last) (head_in bs)) rest.now }
+    {
+        let (content, behind) = cut_field(Tag::Head, rest)?;
+        let head = head_in(content)?;
+        if !self.is_right_head(head) {
+            return None;
+        }
+        Some((head, behind))
+    }
+
+    /// The number and the length of the file at the front of `rest`, and what lies behind it, or the place of its first wrong field.
+    fn file_at<'b>(&self, rest: &'b [u8]) -> Result<(u32, u32, &'b [u8]), SpoiltImage>
+        ensures value { seen result ≡ ok_by summed (file_by (right_behind self.now.image.now self.now.count self.now.last) (length self.now.image.now) rest.now) }
+        ensures bound { IfOk result (λ p. p.1 ≤ 32768) }
+    {
+        let (head, names) = self.head_at(rest).ok_or(spoilt_at(self.image, rest))?;
+        let bodies = behind_name(names).ok_or(spoilt_at(self.image, names))?;
+        let (length, behind) = body_at(head.format, bodies).ok_or(spoilt_at(self.image, bodies))?;
+        Ok((head.number, length, behind))
+    }
+}
+
+/// The refusal of an image whose last part, `rest`, begins with a wrong field.
+fn spoilt_at(image: &[u8], rest: &[u8]) -> SpoiltImage
+    ensures { result.place ≡ length image.now - length rest.now }
 {
-    let size = image.len();
-    let Some((head, names)) = head_at(image, count, last, rest) else {
-        return Err(SpoiltImage {
-            place: size.saturating_sub(rest.len()),
-        });
-    };
-    let Some(bodies) = behind_name(names) else {
-        return Err(SpoiltImage {
-            place: size.saturating_sub(names.len()),
-        });
-    };
-    let Some((length, behind)) = body_at(head.format, bodies) else {
-        return Err(SpoiltImage {
-            place: size.saturating_sub(bodies.len()),
-        });
-    };
-    Ok((head.number, length, behind))
+    SpoiltImage {
+        place: image.len().saturating_sub(rest.len()),
+    }
 }
 
 /// How much an image holds, or the place of its first wrong field.
@@ -112,19 +105,17 @@ pub fn layout_in(image: &[u8]) -> Result<Layout, SpoiltImage>
         if rest.is_empty() {
             return Ok(Layout { count, total });
         }
-        let (number, length, behind) = file_at(image, count, last, rest)?;
+        let front = Front { image, count, last };
+        let (number, length, behind) = front.file_at(rest)?;
         last = number;
         total += length;
         rest = behind;
     }
-    if rest.is_empty() {
-        Ok(Layout {
-            count: MAX_FILES,
-            total,
-        })
-    } else {
-        Err(SpoiltImage {
-            place: image.len().saturating_sub(rest.len()),
-        })
+    if !rest.is_empty() {
+        return Err(spoilt_at(image, rest));
     }
+    Ok(Layout {
+        count: MAX_FILES,
+        total,
+    })
 }

@@ -19,10 +19,7 @@ const SAMPLE: [u8; 23] = [
 
 /// The place of the first wrong field, or `None` if the image is accepted.
 fn place(image: &[u8]) -> Option<usize> {
-    match ImageStore::open(image).verdict {
-        Ok(()) => None,
-        Err(fault) => Some(fault.place),
-    }
+    ImageStore::open(image).err().map(|fault| fault.place)
 }
 
 /// Copies file 3 of the sample into `room` bytes of 0xee, and checks the count and all four bytes.
@@ -33,12 +30,12 @@ fn check_copy(
     count: usize,
     after: [u8; 4],
 ) -> Result<(), Fail> {
-    let store = ImageStore::open(&SAMPLE).store;
+    let store = ImageStore::open(&SAMPLE)?;
     let mut into = [0xeeu8; 4];
-    if room > 4 {
+    let Some(front) = into.get_mut(..room) else {
         return Err(Fail::new("no such room"));
-    }
-    let copied = store.copy(3, offset, &mut into[0..room]);
+    };
+    let copied = store.copy(3, offset, front);
     assert_eq!(rt; copied, count);
     assert_eq!(rt; into, after);
     Ok(())
@@ -46,9 +43,7 @@ fn check_copy(
 
 #[test]
 fn sample_is_described(rt: HostRuntime) -> Result<(), Fail> {
-    let opened = ImageStore::open(&SAMPLE);
-    assert!(rt; opened.verdict.is_ok());
-    let store = opened.store;
+    let store = ImageStore::open(&SAMPLE)?;
     assert_eq!(rt; store.capacity(), 2);
     assert_eq!(rt; store.limit(), 1);
     assert_eq!(rt; store.total(), 2);
@@ -131,19 +126,14 @@ fn right_image(heap: Global) -> Result<Vec<u8>, AllocError> {
 #[test]
 fn one_wrong_byte_is_found(rt: HostRuntime) -> Result<(), Fail> {
     let right = right_image(rt.alloc())?;
-    assert_eq!(rt; place(right.as_slice()), None, "the right image");
-    for spoiling in SPOILINGS.iter() {
-        let (at, byte, wrong) = *spoiling;
+    assert_eq!(rt; place(&right), None, "the right image");
+    for (at, byte, wrong) in SPOILINGS {
         let mut image = right.clone()?;
         let Some(cell) = image.get_mut(at) else {
             return Err(Fail::new("the table goes past the image"));
         };
         *cell = byte;
-        assert_eq!(rt;
-            place(image.as_slice()),
-            Some(wrong),
-            "byte {at} set to {byte}"
-        );
+        assert_eq!(rt; place(&image), Some(wrong), "byte {at} set to {byte}");
     }
     Ok(())
 }
@@ -157,16 +147,16 @@ fn place_of_file(
 ) -> Result<Option<usize>, AllocError> {
     let mut image = Vec::new(heap);
     push_file(&mut image, number, 0, TEXT, units, body)?;
-    Ok(place(image.as_slice()))
+    Ok(place(&image))
 }
 
 /// The place that is wrong in an image of `count` files of 21 bytes each.
 fn place_of_many(heap: Global, count: u32) -> Result<Option<usize>, AllocError> {
     let mut image = Vec::new(heap);
-    for i in 0..count {
-        push_file(&mut image, i.wrapping_add(1), 0, TEXT, &[0x41], &[])?;
+    for number in 1..=count {
+        push_file(&mut image, number, 0, TEXT, &[0x41], &[])?;
     }
-    Ok(place(image.as_slice()))
+    Ok(place(&image))
 }
 
 #[test]
@@ -174,7 +164,7 @@ fn largest_is_accepted(rt: HostRuntime) -> Result<(), Fail> {
     let heap = rt.alloc();
     let units = vec![in heap; 0xffffu16; 63]?;
     let body = vec![in heap; 0u8; 32768]?;
-    let place = place_of_file(heap, 0x7fff_fffe, units.as_slice(), body.as_slice())?;
+    let place = place_of_file(heap, 0x7fff_fffe, &units, &body)?;
     assert_eq!(rt; place, None);
     assert_eq!(rt; place_of_many(heap, 1024)?, None);
     Ok(())
@@ -186,8 +176,8 @@ fn too_large_is_found(rt: HostRuntime) -> Result<(), Fail> {
     let units = vec![in heap; 0x20u16; 64]?;
     let body = vec![in heap; 0u8; 32769]?;
     assert_eq!(rt; place_of_file(heap, 0x7fff_ffff, &[0x20], &[])?, Some(0));
-    assert_eq!(rt; place_of_file(heap, 1, units.as_slice(), &[])?, Some(13));
-    assert_eq!(rt; place_of_file(heap, 1, &[0x20], body.as_slice())?, Some(18));
+    assert_eq!(rt; place_of_file(heap, 1, &units, &[])?, Some(13));
+    assert_eq!(rt; place_of_file(heap, 1, &[0x20], &body)?, Some(18));
     assert_eq!(rt; place_of_many(heap, 1025)?, Some(21504));
     Ok(())
 }
@@ -197,16 +187,10 @@ const STARTS: [usize; 6] = [0, 13, 18, 23, 36, 41];
 
 /// The place that is wrong if that image is cut to `length` bytes: the field that is cut, or the end where one is missing.
 fn place_of_cut(length: usize) -> Option<usize> {
-    if length == 0 || length == 23 || length == 46 {
+    if [0, 23, 46].contains(&length) {
         return None;
     }
-    let mut place = 0;
-    for start in STARTS.iter() {
-        if *start <= length {
-            place = *start;
-        }
-    }
-    Some(place)
+    STARTS.iter().copied().rfind(|start| *start <= length)
 }
 
 #[test]
@@ -215,10 +199,8 @@ fn cut_is_found(rt: HostRuntime) -> Result<(), Fail> {
     push_file(&mut image, 1, 0, TEXT, &[0x41], &[0x68, 0x69])?;
     push_file(&mut image, 2, 0, TEXT, &[0x42], &[0x68, 0x6f])?;
     assert_eq!(rt; image.len(), 46);
-    for length in 0..47 {
-        let Some((front, _)) = image.as_slice().split_at_checked(length) else {
-            return Err(Fail::new("the image is short"));
-        };
+    for length in 0..=image.len() {
+        let front = &image[..length];
         assert_eq!(rt; place(front), place_of_cut(length), "cut to {length} bytes");
     }
     Ok(())

@@ -5,30 +5,23 @@ pub const FOLDER: u16 = 0x3001;
 
 pub const TEXT: u16 = 0x3004;
 
-/// Adds a field. Of the content's length only the lower 16 bits are written.
-fn push_field(image: &mut Vec<u8>, tag: u8, content: &[u8]) -> Result<(), AllocError> {
-    let length = content.len().to_le_bytes();
-    image.extend_from_slice(&[tag, length[0], length[1]])?;
-    image.extend_from_slice(content)
+/// Adds a field's tag and its content's length, of which only the lower 16 bits are written.
+fn push_start(image: &mut Vec<u8>, tag: u8, length: usize) -> Result<(), AllocError> {
+    let [low, high, ..] = length.to_le_bytes();
+    image.extend_from_slice(&[tag, low, high])
 }
 
 /// Adds a first field.
-pub fn push_head(
-    image: &mut Vec<u8>,
-    number: u32,
-    parent: u32,
-    format: u16,
-) -> Result<(), AllocError> {
-    image.extend_from_slice(&[1, 10, 0])?;
+fn push_head(image: &mut Vec<u8>, number: u32, parent: u32, format: u16) -> Result<(), AllocError> {
+    push_start(image, 1, 10)?;
     image.extend_from_slice(&number.to_le_bytes())?;
     image.extend_from_slice(&parent.to_le_bytes())?;
     image.extend_from_slice(&format.to_le_bytes())
 }
 
 /// Adds a name's field.
-pub fn push_name(image: &mut Vec<u8>, units: &[u16]) -> Result<(), AllocError> {
-    let length = (units.len().wrapping_mul(2)).to_le_bytes();
-    image.extend_from_slice(&[2, length[0], length[1]])?;
+fn push_name(image: &mut Vec<u8>, units: &[u16]) -> Result<(), AllocError> {
+    push_start(image, 2, units.len().wrapping_mul(2))?;
     for unit in units {
         image.extend_from_slice(&unit.to_le_bytes())?;
     }
@@ -36,8 +29,9 @@ pub fn push_name(image: &mut Vec<u8>, units: &[u16]) -> Result<(), AllocError> {
 }
 
 /// Adds the field with a file's bytes.
-pub fn push_body(image: &mut Vec<u8>, body: &[u8]) -> Result<(), AllocError> {
-    push_field(image, 3, body)
+fn push_body(image: &mut Vec<u8>, body: &[u8]) -> Result<(), AllocError> {
+    push_start(image, 3, body.len())?;
+    image.extend_from_slice(body)
 }
 
 /// Adds a file.

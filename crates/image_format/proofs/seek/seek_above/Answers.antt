@@ -1,28 +1,14 @@
-use Rattle.std.proofs.Common.{◌+◌, ◌-◌, cond, Some, sym, ap, ◌∙◌, arith}
-use Rattle.std.specs.Option.{option_map}
-use Rattle.image_format.specs.Walk.{plain_of, sought}
-use Rattle.image_format.proofs.Steps.{sought_step}
+use Rattle.std.proofs.Common.{ltb, refl, sym, ◌∙◌, rules}
+use Rattle.std.proofs.lemmas.Iterator.Consumers.{YieldsList-from_first}
+use Rattle.std.proofs.lemmas.Iterator.Search.{find_from_yields_List}
+use borrow.Author.Tests.{tests}
+use Rattle.image_format.specs.Walk.{plain_of, records}
+use Rattle.image_format.proofs.Steps.{sought_found}
 use Rattle.image_format.proofs.seek.seek_above.Goals as goal
 
-pub returns-in_err-record : goal.returns-in_err-record
-returns-in_err-record c =
-    let left = c.args.count - (c.loop-passed._passed + 1) in
-    ap (option_map plain_of) c.from_residual.ensures
-    ∙ sym (sought_step (c.args.count - c.loop-passed._passed) left c.loop-passed.rest.now c.args.number _ (omega arith) c.in_err-record.ensures)
-    ∙ c.loop-passed.invariant
-
-pub returns-then-is_above : goal.returns-then-is_above
-returns-then-is_above c =
-    let left = c.args.count - (c.loop-passed._passed + 1) in
-    let found = c.in_ok-record.record in
-    sym (ap (λ t. cond t (Some (plain_of found)) (sought left c.in_ok-record.behind.now c.args.number)) (sym c.if-is_above.ensures))
-    ∙ sym (sought_step (c.args.count - c.loop-passed._passed) left c.loop-passed.rest.now c.args.number _ (omega arith) c.in_ok-record.ensures)
-    ∙ c.loop-passed.invariant
-
-pub loop-passed-preserved : goal.loop-passed-preserved
-loop-passed-preserved c =
-    let left = c.args.count - (c.loop-passed._passed + 1) in
-    let found = c.in_ok-record.record in
-    sym (ap (λ t. cond t (Some (plain_of found)) (sought left c.in_ok-record.behind.now c.args.number)) (sym c.if-is_above.ensures))
-    ∙ sym (sought_step (c.args.count - c.loop-passed._passed) left c.loop-passed.rest.now c.args.number _ (omega arith) c.in_ok-record.ensures)
-    ∙ c.loop-passed.invariant
+pub returns : goal.returns
+returns c =
+    find_from_yields_List (λ p. ltb c.args.number p.head.number) c.find.new.self _ c.find.result c.find.ensures.ran
+    (YieldsList-from_first plain_of (λ s. records s.count s.rest.now) (records c.args.count c.args.image.now) refl)
+    (λ x b q k. search (rules, tests))
+    ∙ sym (sought_found c.args.count c.args.image.now c.args.number)
