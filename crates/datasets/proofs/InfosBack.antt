@@ -4,7 +4,8 @@ use Rattle.std.specs.List.{AllByRecursion}
 use Rattle.std.proofs.lemmas.Bool.{leb-true, ltb-true, le-leb, and_parts, cond-true}
 use Rattle.byte_parts.specs.Numbers.{le, value}
 use Rattle.byte_parts.proofs.LittleEndian.{value_le}
-use Rattle.object.specs.Legal.{legal_unit, all, legal_name}
+use Rattle.std.specs.List.{list_all}
+use Rattle.object.specs.Legal.{legal_unit, legal_name}
 use Rattle.object.specs.Names.{units_of}
 use Rattle.object.specs.Protections.{protection_number, protection_of}
 use Rattle.object.specs.declared.name.Name.{Name}
@@ -25,10 +26,10 @@ use Rattle.datasets.specs.declared.info.StorageKind.TheVariants.{Programs, Handb
 use Rattle.datasets.proofs.Lengths.{length_object_info}
 
 -- legal units may stand in a string
-units_fit : (us : List ℕ) → all legal_unit us ≡ true → AllByRecursion UnitFits us
+units_fit : (us : List ℕ) → list_all legal_unit us ≡ true → AllByRecursion UnitFits us
 units_fit [] h = tt
 units_fit (u ∷ us) h =
-    let p = and_parts (legal_unit u) (all legal_unit us) h in
+    let p = and_parts (legal_unit u) (list_all legal_unit us) h in
     let a = and_parts (leb 0x0020 u) _ p.0 in
     let b = and_parts (ltb u 65536) _ a.1 in
     let low = leb-true 0x0020 u a.0 in
@@ -38,7 +39,7 @@ pub name_fits : (n : Name) → AllByRecursion UnitFits (units_of n)
 unfolding legal_name
 name_fits n =
     let a = and_parts (leb 1 (length (units_of n))) _ (units_legal n) in
-    let b = and_parts (leb (length (units_of n)) 63) (all legal_unit (units_of n)) a.1 in
+    let b = and_parts (leb (length (units_of n)) 63) (list_all legal_unit (units_of n)) a.1 in
     units_fit (units_of n) b.1
 
 protection_back : (p : Protection) → protection_of (value (le 2 (protection_number p))) ≡ Some p

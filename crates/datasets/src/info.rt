@@ -3,7 +3,7 @@ use object::name::Name;
 use object::protection::Protection;
 
 /// What an ObjectInfo dataset says of an object. `parent` is a handle, or 0 at the root.
-#[derive(Clone, Copy)]
+#[derive(Clone, Copy, PartialEq, Eq)]
 pub struct ObjectInfo {
     pub storage: u32,
     pub format: u16,
@@ -14,7 +14,7 @@ pub struct ObjectInfo {
 }
 
 /// What a StorageInfo dataset says of a storage.
-#[derive(Clone, Copy)]
+#[derive(Clone, Copy, Debug, PartialEq, Eq)]
 pub struct StorageInfo {
     pub kind: StorageKind,
     pub writable: bool,
@@ -23,9 +23,9 @@ pub struct StorageInfo {
     pub free_objects: u32,
 }
 
-/// The two storages: the one that can be written, and the read-only one.
-#[derive(Clone, Copy)]
+/// The two storages: the one that can be written, and the read-only one. Each has its storage type's number.
+#[derive(Clone, Copy, Debug, PartialEq, Eq)]
 pub enum StorageKind {
-    Programs,
-    Handbook,
+    Programs = 3,
+    Handbook = 1,
 }

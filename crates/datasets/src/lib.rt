@@ -4,4 +4,5 @@
 pub mod device;
 pub mod info;
 pub mod read;
+mod text;
 pub mod write;

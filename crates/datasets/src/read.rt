@@ -10,7 +10,7 @@ use byte_parts::cut::cut;
 use object::name::Name;
 use object::protection::Protection;
 use wire::fault::DatasetFault;
-use wire::read::{u16_at, u32_at};
+use wire::read::number_at;
 use wire::string::read_string;
 
 /// How long the fields of fixed width are.
@@ -21,13 +21,11 @@ fn are_strings(count: usize, bytes: &[u8]) -> bool
     ensures { result ≡ are_strings count bytes.now }
 {
     let mut rest = bytes;
-    let mut left = count;
-    while left > 0 {
+    for _ in 0..count {
         match read_string(rest) {
             Some(text) => rest = text.rest,
             None => return false,
         }
-        left -= 1;
     }
     rest.is_empty()
 }
@@ -36,7 +34,7 @@ fn are_strings(count: usize, bytes: &[u8]) -> bool
 fn protection_in(bytes: &[u8]) -> Option<Protection>
     ensures { result ≡ protection_at bytes.now }
 {
-    Protection::from_number(u16_at(bytes, 6))
+    Protection::try_from(number_at::<u16>(bytes, 6)).ok()
 }
 
 fn read_info(bytes: &[u8]) -> Option<ObjectInfo>
@@ -50,17 +48,18 @@ fn read_info(bytes: &[u8]) -> Option<ObjectInfo>
     let protection = protection_in(bytes)?;
     let name = Name::from_bytes(filename.units)?;
     Some(ObjectInfo {
-        storage: u32_at(bytes, 0),
-        format: u16_at(bytes, 4),
+        storage: number_at(bytes, 0),
+        format: number_at(bytes, 4),
         protection,
-        size: u32_at(bytes, 8),
-        parent: u32_at(bytes, 38),
+        size: number_at(bytes, 8),
+        parent: number_at(bytes, 38),
         name,
     })
 }
 
 impl ObjectInfo {
     /// What the dataset says, if it is well formed and nothing lies behind it.
+    #[tactic(auto, using(crate::proofs::InfosBack::object_info_back))]
     pub fn read(bytes: &[u8]) -> Result<ObjectInfo, DatasetFault>
         ensures value { result ≡ ok_or (object_info_in bytes.now) InvalidDataset }
         ensures law { ObjectInfosReadBack }

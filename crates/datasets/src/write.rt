@@ -10,20 +10,19 @@ ghost use Rattle.datasets.specs.Readers.{storage_info_in};
 ghost use Rattle.datasets.specs.StorageInfos.{storage_type, storage_label, access_capability, storage_info};
 
 use crate::info::{ObjectInfo, StorageInfo, StorageKind};
+use crate::text::units;
 use object::format::Format;
 use object::name::Name;
-use wire::data::write_data_head;
+use wire::container::Heading;
+use wire::data::write_data;
 use wire::fault::DatasetFault;
-use wire::put::{put_bytes, put_string, put_u8, put_u16, put_u32, put_u64};
+use wire::put::{Put, put_bytes, put_number, put_string};
 
+// The number may be no format's, so it is compared and not converted.
 fn association_type(format: u16) -> u16
     ensures { result ≡ association_type format }
 {
-    if format == Format::Association.number() {
-        1
-    } else {
-        0
-    }
+    u16::from(format == Format::Association.number())
 }
 
 /// Puts the fields of fixed width.
@@ -32,13 +31,13 @@ fn put_object_fields(out: &mut [u8], place: usize, info: &ObjectInfo) -> usize
     ensures bytes { Wrote place (object_fields info.now) out.old out.new result }
     ensures fits { ObjectInfoFits info.now }
 {
-    let next = put_u32(out, place, info.storage);
-    let next = put_u16(out, next, info.format);
-    let next = put_u16(out, next, info.protection.number());
-    let next = put_u32(out, next, info.size);
+    let next = put_number(out, place, info.storage);
+    let next = put_number(out, next, info.format);
+    let next = put_number(out, next, info.protection.number());
+    let next = put_number(out, next, info.size);
     let next = put_bytes(out, next, &[0; 26]);
-    let next = put_u32(out, next, info.parent);
-    let next = put_u16(out, next, association_type(info.format));
+    let next = put_number(out, next, info.parent);
+    let next = put_number(out, next, association_type(info.format));
     put_bytes(out, next, &[0; 8])
 }
 
@@ -49,56 +48,50 @@ fn put_name(out: &mut [u8], place: usize, name: &Name) -> usize
     put_string(out, place, name.units())
 }
 
-fn object_info_len(info: &ObjectInfo) -> usize
-    ensures { result ≡ length (object_info info.now) }
-{
-    58 + 2 * info.name.units().len()
-}
+impl Put for ObjectInfo {
+    ghost bytes = { object_info };
 
-fn put_object_info(out: &mut [u8], place: usize, info: &ObjectInfo) -> usize
-    requires { place + length (object_info info.now) ≤ length out.old }
-    ensures bytes { Wrote place (object_info info.now) out.old out.new result }
-    ensures fits { ObjectInfoFits info.now }
-{
-    let next = put_object_fields(out, place, info);
-    let next = put_name(out, next, &info.name);
-    put_bytes(out, next, &[0; 3])
+    ghost fits = { ObjectInfoFits };
+
+    #[tactic(auto, using(crate::proofs::Lengths::length_object_info))]
+    fn size(&self) -> usize {
+        58 + 2 * self.name.units().len()
+    }
+
+    #[tactic(auto, using(wire::proofs::Puts::length_put, crate::proofs::Lengths::length_parts))]
+    fn put(&self, out: &mut [u8], place: usize) -> usize {
+        let next = put_object_fields(out, place, self);
+        let next = put_name(out, next, &self.name);
+        put_bytes(out, next, &[0; 3])
+    }
 }
 
 /// Writes the data container of an ObjectInfo.
+#[tactic(auto, using(crate::proofs::InfosBack::object_info_back))]
 pub fn write_object_info(
     out: &mut [u8],
-    code: u16,
-    transaction: u32,
+    heading: Heading,
     info: &ObjectInfo,
 ) -> Result<usize, DatasetFault>
-    ensures value { (result, out.new) ≡ placed (data_container code transaction (object_info info.now)) out.old }
+    ensures value { (result, out.new) ≡ placed (data_container heading.code heading.transaction (object_info info.now)) out.old }
     ensures back { OnOk result (object_info_in (object_info info.now) ≡ Some info.now) }
 {
-    let next = write_data_head(out, code, transaction, object_info_len(info))?;
-    Ok(put_object_info(out, next, info))
+    write_data(out, heading, info)
 }
-
-const PROGRAMS: [u16; 8] = [0x50, 0x72, 0x6f, 0x67, 0x72, 0x61, 0x6d, 0x73];
-
-const HANDBOOK: [u16; 8] = [0x48, 0x61, 0x6e, 0x64, 0x62, 0x6f, 0x6f, 0x6b];
 
 impl StorageKind {
     fn number(self) -> u16
         ensures { result ≡ storage_type self }
     {
-        match self {
-            StorageKind::Programs => 3,
-            StorageKind::Handbook => 1,
-        }
+        self as u16
     }
 
     fn label(self) -> [u16; 8]
         ensures { result ≡ storage_label self }
     {
         match self {
-            StorageKind::Programs => PROGRAMS,
-            StorageKind::Handbook => HANDBOOK,
+            StorageKind::Programs => units(b"Programs"),
+            StorageKind::Handbook => units(b"Handbook"),
         }
     }
 }
@@ -106,35 +99,42 @@ impl StorageKind {
 fn access_capability(writable: bool) -> u16
     ensures { result ≡ access_capability writable }
 {
-    if writable { 0 } else { 1 }
+    u16::from(!writable)
 }
 
-fn put_storage_info(out: &mut [u8], place: usize, info: &StorageInfo) -> usize
-    requires { place + 46 ≤ length out.old }
-    ensures bytes { Wrote place (storage_info info.now) out.old out.new result }
-    ensures fits { StorageInfoFits info.now }
-{
-    let next = put_u16(out, place, info.kind.number());
-    let next = put_u16(out, next, 2);
-    let next = put_u16(out, next, access_capability(info.writable));
-    let next = put_u64(out, next, info.capacity);
-    let next = put_u64(out, next, info.free_bytes);
-    let next = put_u32(out, next, info.free_objects);
-    let next = put_string(out, next, &info.kind.label());
-    put_u8(out, next, 0)
+impl Put for StorageInfo {
+    ghost bytes = { storage_info };
+
+    ghost fits = { StorageInfoFits };
+
+    #[tactic(auto, using(crate::proofs::Lengths::length_storage_info))]
+    fn size(&self) -> usize {
+        46
+    }
+
+    #[tactic(auto, using(crate::proofs::Lengths::length_storage_info))]
+    fn put(&self, out: &mut [u8], place: usize) -> usize {
+        let next = put_number(out, place, self.kind.number());
+        let next = put_number(out, next, 2u16);
+        let next = put_number(out, next, access_capability(self.writable));
+        let next = put_number(out, next, self.capacity);
+        let next = put_number(out, next, self.free_bytes);
+        let next = put_number(out, next, self.free_objects);
+        let next = put_string(out, next, &self.kind.label());
+        put_string(out, next, &[])
+    }
 }
 
 /// Writes the data container of a StorageInfo.
+#[tactic(auto, using(crate::proofs::InfosBack::storage_info_back))]
 pub fn write_storage_info(
     out: &mut [u8],
-    code: u16,
-    transaction: u32,
+    heading: Heading,
     info: &StorageInfo,
 ) -> Result<usize, DatasetFault>
-    ensures value { (result, out.new) ≡ placed (data_container code transaction (storage_info info.now)) out.old }
+    ensures value { (result, out.new) ≡ placed (data_container heading.code heading.transaction (storage_info info.now)) out.old }
     ensures back { OnOk result (storage_info_in (storage_info info.now) ≡ Some info.now) }
     ensures law { StorageInfosReadBack }
 {
-    let next = write_data_head(out, code, transaction, 46)?;
-    Ok(put_storage_info(out, next, info))
+    write_data(out, heading, info)
 }

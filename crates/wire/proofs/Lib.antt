@@ -1,7 +1,7 @@
+pub mod Mapped
 pub mod Placed
 pub mod Places
 pub mod Puts
 pub mod ReadBack
-pub mod Rows
 pub mod Shown
 pub mod Units

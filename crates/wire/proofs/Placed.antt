@@ -43,8 +43,7 @@ was_placed room bs xs ys n h e = by (leb room (length xs)) refl e
         }
     by false q p =
         let a : ◌≡◌ {A = Result ℕ DatasetFault} (Ok n) (Err BufferTooShort) = ap (λ r. r.0) p in
-        let z : ◌≡◌ {A = ℕ} 0 1 = cc in
-        absurd (omega arith)
+        absurd (cc)
 
 pub record Refused (room : ℕ) (xs ys : List ℕ) (e : DatasetFault) : Type 0 where
   pub short : length xs < room
@@ -57,8 +56,7 @@ was_refused room bs xs ys f e = by (leb room (length xs)) refl e
     by : (t : Bool) → leb room (length xs) ≡ t → ◌≡◌ {A = Result ℕ DatasetFault × List ℕ} (Err f, ys) (cond t (Ok (length bs), over bs xs) (Err BufferTooShort, xs)) → Refused room xs ys f
     by true q p =
         let a : ◌≡◌ {A = Result ℕ DatasetFault} (Err f) (Ok (length bs)) = ap (λ r. r.0) p in
-        let z : ◌≡◌ {A = ℕ} 0 1 = cc in
-        absurd (omega arith)
+        absurd (cc)
     by false q p =
         let a : ◌≡◌ {A = Result ℕ DatasetFault} (Err f) (Err BufferTooShort) = ap (λ r. r.0) p in
         record { short = leb-false room (length xs) q; kept = ap (λ r. r.1) p; fault = cc }

@@ -1,7 +1,6 @@
 -- Writes one behind the other.
-use Rattle.std.proofs.Common.{◌≡◌, ℕ, suc, ◌+◌, ◌*◌, ◌/◌, ◌%◌, ◌<◌, ◌≤◌, List, [], ◌∷◌, ◌++◌, length, get_or, take, drop, sym, refl, ap, ◌∙◌, subst, append_assoc, add-zero, add_assoc, mul-le-mul_left, arith, length-append, length-drop, take-append-drop, length-take}
-use native.Mathlib.Nat.{div-div-eq-div-mul}
-use Rattle.std.proofs.lemmas.List.{take_at, drop_at, drop-drop, take_more, take_all, length-take-le}
+use Rattle.std.proofs.Common.{◌≡◌, ℕ, suc, ◌+◌, ◌*◌, ◌<◌, ◌≤◌, List, [], ◌∷◌, ◌++◌, length, get_or, take, drop, sym, refl, ap, ◌∙◌, subst, append_assoc, add-zero, add_assoc, mul-le-mul_left, arith, length-append, length-drop, take-append-drop, length-take}
+use Rattle.std.proofs.lemmas.List.{append-nil, take_at, drop_at, drop-drop, take_more, take_all, length-take-le}
 use Rattle.byte_parts.specs.Numbers.{le}
 use Rattle.byte_parts.proofs.LittleEndian.{length_le}
 use Rattle.object.specs.Names.{unit_bytes}
@@ -48,26 +47,6 @@ put_none place xs h =
 pub put_same : {place n : ℕ} {a b xs ys : List ℕ} → a ≡ b → Wrote place a xs ys n → Wrote place b xs ys n
 put_same {place} {n} {a} {b} {xs} {ys} e w = subst (λ l. Wrote place l xs ys n) e w
 
--- the bytes of a number as the standard library names them
-byte_up : (x y : ℕ) (k : ℕ) → x / k ≡ y → x / (k * 256) ≡ y / 256
-byte_up x y k e = sym (div-div-eq-div-mul x k 256) ∙ ap (λ z. z / 256) e
-
-pub le_four : (x : ℕ) → (x % 256) ∷ (x / 256 % 256) ∷ (x / 65536 % 256) ∷ (x / 16777216 % 256) ∷ [] ≡ le 4 x
-le_four x =
-    let a = byte_up x _ 256 refl in
-    let b = byte_up x _ 65536 a in
-    λ i. (x % 256) ∷ (x / 256 % 256) ∷ (a i % 256) ∷ (b i % 256) ∷ []
-
-pub le_eight : (x : ℕ) → (x % 256) ∷ (x / 256 % 256) ∷ (x / 65536 % 256) ∷ (x / 16777216 % 256) ∷ (x / 4294967296 % 256) ∷ (x / 1099511627776 % 256) ∷ (x / 281474976710656 % 256) ∷ (x / 72057594037927936 % 256) ∷ [] ≡ le 8 x
-le_eight x =
-    let a = byte_up x _ 256 refl in
-    let b = byte_up x _ 65536 a in
-    let c = byte_up x _ 16777216 b in
-    let d = byte_up x _ 4294967296 c in
-    let e = byte_up x _ 1099511627776 d in
-    let f = byte_up x _ 281474976710656 e in
-    λ i. (x % 256) ∷ (x / 256 % 256) ∷ (a i % 256) ∷ (b i % 256) ∷ (c i % 256) ∷ (d i % 256) ∷ (e i % 256) ∷ (f i % 256) ∷ []
-
 pub length_numbers : (k : ℕ) (ns : List ℕ) → length (numbers k ns) ≡ k * length ns
 length_numbers k [] = omega arith
 length_numbers k (n ∷ ns) =
@@ -93,12 +72,8 @@ module _ (k i : ℕ) (ns : List ℕ) {place next : ℕ} {xs ys : List ℕ} (w : 
 
   pub numbers_more : {n : ℕ} {zs : List ℕ} → i < length ns → Wrote next (le k (get_or ns i 0)) ys zs n → Wrote place (numbers k (take (i + 1) ns)) xs zs n
   numbers_more h v =
-      put_same (ap (λ l. numbers k (take i ns) ++ l) (sym (append_none (le k (get_or ns i 0)))) ∙ sym (numbers_append k (take i ns) (get_or ns i 0 ∷ [])) ∙ ap (numbers k) (sym (take_more ns i 0 h)))
+      put_same (ap (λ l. numbers k (take i ns) ++ l) (sym (append-nil (le k (get_or ns i 0)))) ∙ sym (numbers_append k (take i ns) (get_or ns i 0 ∷ [])) ∙ ap (numbers k) (sym (take_more ns i 0 h)))
       (put_then w v)
-    where
-      append_none : (l : List ℕ) → l ++ [] ≡ l
-      append_none [] = refl
-      append_none (x ∷ l) = ap (λ m. x ∷ m) (append_none l)
 
   pub numbers_all : length ns ≤ i → Wrote place (numbers k ns) xs ys next
   numbers_all h = put_same (ap (numbers k) (take_all i ns h)) w
@@ -110,10 +85,6 @@ unit_numbers (u ∷ us) = ap (λ l. le 2 u ++ l) (unit_numbers us)
 pub string_some : (us : List ℕ) → 0 < length us → string us ≡ (length us + 1) ∷ (numbers 2 us ++ (0 ∷ 0 ∷ []))
 string_some [] h = absurd (omega arith)
 string_some (u ∷ us) h = λ i. (let e : suc (suc (length us)) ≡ suc (length us) + 1 = omega arith in e) i ∷ (unit_numbers (u ∷ us) i ++ (0 ∷ 0 ∷ []))
-
-pub string_none : (us : List ℕ) → length us ≡ 0 → string us ≡ 0 ∷ []
-string_none [] h = refl
-string_none (u ∷ us) h = absurd (omega arith)
 
 pub length_string : (us : List ℕ) → 0 < length us → length (string us) ≡ 2 * length us + 3
 length_string us h = ap length (string_some us h) ∙ (let a = length-append (numbers 2 us) (0 ∷ 0 ∷ []) in let b = length_numbers 2 us in omega arith)

@@ -1,7 +1,7 @@
 -- What is written is read back: containers, arrays and strings.
 use Rattle.std.proofs.Common.{◌≡◌, ℕ, zero, suc, ◌+◌, ◌-◌, ◌*◌, ◌/◌, ◌%◌, ◌^◌, ◌<◌, ◌≤◌, Bool, true, false, cond, ◌&&◌, eqb, leb, List, [], ◌∷◌, ◌++◌, length, take, drop, Some, None, Option, sym, refl, ap, ◌∙◌, subst, append_assoc, arith}
 use Rattle.std.specs.List.{AllByRecursion}
-use Rattle.std.proofs.lemmas.List.{take_at, drop_at, drop-drop, take-append-drop, length-drop, length-take-le}
+use Rattle.std.proofs.lemmas.List.{append-nil, take_at, drop_at, drop-drop, take-append-drop, length-drop, length-take-le}
 use Rattle.std.proofs.ByRecursion.{All-take, All-drop}
 use Rattle.std.proofs.lemmas.Bool.{eq-eqb, ne_eqb, eqb-true, le-leb, leb-true, and_from, and_parts, cond-true, cond-false}
 use Rattle.byte_parts.specs.Numbers.{Bytes, le, value}
@@ -59,12 +59,8 @@ numbers_back k (n ∷ ns) rest h =
     λ i. (ap (λ l. value (take k l)) e ∙ ap value (take_at (le k n) (numbers k ns ++ rest) k (length_le k n)) ∙ value_le k n h.0) i
     ∷ (ap (λ l. number_list k (length ns) (drop k l)) e ∙ ap (number_list k (length ns)) (drop_at (le k n) (numbers k ns ++ rest) k (length_le k n)) ∙ numbers_back k ns rest h.1) i
 
-append_none : (l : List ℕ) → l ++ [] ≡ l
-append_none [] = refl
-append_none (x ∷ l) = ap (λ m. x ∷ m) (append_none l)
-
 pub list_back : (k : ℕ) (ns : List ℕ) → AllByRecursion (λ n. n < 256 ^ k) ns → number_list k (length ns) (numbers k ns) ≡ ns
-list_back k ns h = ap (number_list k (length ns)) (sym (append_none (numbers k ns))) ∙ numbers_back k ns [] h
+list_back k ns h = ap (number_list k (length ns)) (sym (append-nil (numbers k ns))) ∙ numbers_back k ns [] h
 
 pub array_back : ArraysReadBack
 unfolding array_in array

@@ -2,6 +2,7 @@
 use Rattle.std.specs.Prelude.{ℕ, ◌+◌, ◌%◌, Bool, cond, ◌&&◌, List, [], ◌∷◌, ◌++◌, map, length, take, drop, Some, None, Option, ◌==◌, nat_le}
 use Rattle.byte_parts.specs.Numbers.{le, value}
 use Rattle.wire.specs.declared.command.Command.{Command}
+use Rattle.wire.specs.declared.container.Heading.{Heading}
 
 -- the types of container
 abbrev pub command_type : ℕ
@@ -49,6 +50,10 @@ command_in bs =
       parameters = map (λ place. number_at 4 place bs) (12 ∷ 16 ∷ 20 ∷ 24 ∷ 28 ∷ []);
     }))
     None
+
+-- what the head of a command's data container says
+abbrev pub heading_of : Command → Heading
+heading_of c = record { code = c.code; transaction = c.transaction }
 
 -- the bytes are one data container of this code and transaction
 abbrev pub is_data : ℕ → ℕ → List ℕ → Bool

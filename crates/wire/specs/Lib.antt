@@ -1,5 +1,6 @@
 pub mod Containers
 pub mod Faults
+pub mod Kinds
 pub mod Laws
 pub mod Operations
 pub mod Parameters

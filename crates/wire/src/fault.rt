@@ -6,18 +6,18 @@ ghost use Rattle.wire.specs.Faults.{stray_number, dataset_fault_number};
 const STRAY_CONTAINER: u16 = 1;
 
 /// Bytes that are not one command container: nothing is owed for them.
-#[derive(Clone, Copy)]
+#[derive(Clone, Copy, Debug, PartialEq, Eq)]
 pub struct StrayContainer;
 
-/// Why data was not read or written.
-#[derive(Clone, Copy)]
+/// Why data was not read or written, with the response code that tells of it.
+#[derive(Clone, Copy, Debug, PartialEq, Eq)]
 pub enum DatasetFault {
     /// The data is not exactly the one container that was expected.
-    IncompleteTransfer,
+    IncompleteTransfer = 0x2007,
     /// The dataset is not well formed.
-    InvalidDataset,
+    InvalidDataset = 0xa806,
     /// The container is longer than the buffer.
-    BufferTooShort,
+    BufferTooShort = 0x2002,
 }
 
 impl StrayContainer {
@@ -34,10 +34,6 @@ impl DatasetFault {
     pub fn number(self) -> u16
         ensures { result ≡ dataset_fault_number self }
     {
-        match self {
-            DatasetFault::IncompleteTransfer => 0x2007,
-            DatasetFault::InvalidDataset => 0xa806,
-            DatasetFault::BufferTooShort => 0x2002,
-        }
+        self as u16
     }
 }

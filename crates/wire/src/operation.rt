@@ -1,106 +1,107 @@
 //! The operations that the responder knows.
-ghost use Rattle.std.specs.Prelude.{◌≡◌, ◌==◌};
-ghost use Rattle.wire.specs.Operations.{operation_of};
+ghost use Rattle.std.specs.Prelude.{◌≡◌, IfSome, ◌==◌};
+ghost use Rattle.wire.specs.Operations.{operation_number, operation_of};
 
-/// One operation: its code, and how many parameters it has.
-#[derive(Clone, Copy)]
-pub struct Operation {
-    pub code: u16,
-    pub parameters: u8,
+/// What an operation is, with its code on the wire.
+#[derive(Clone, Copy, Debug, PartialEq, Eq)]
+pub enum OperationCode {
+    GetDeviceInfo = 0x1001,
+    OpenSession = 0x1002,
+    CloseSession = 0x1003,
+    GetStorageIds = 0x1004,
+    GetStorageInfo = 0x1005,
+    GetObjectHandles = 0x1007,
+    GetObjectInfo = 0x1008,
+    GetObject = 0x1009,
+    DeleteObject = 0x100b,
+    SendObjectInfo = 0x100c,
+    SendObject = 0x100d,
+    GetPartialObject = 0x101b,
 }
 
-pub const GET_DEVICE_INFO: u16 = 0x1001;
+impl OperationCode {
+    /// The code on the wire.
+    pub fn number(self) -> u16
+        ensures { result ≡ operation_number self }
+    {
+        self as u16
+    }
+}
 
-pub const OPEN_SESSION: u16 = 0x1002;
-
-pub const CLOSE_SESSION: u16 = 0x1003;
-
-pub const GET_STORAGE_IDS: u16 = 0x1004;
-
-pub const GET_STORAGE_INFO: u16 = 0x1005;
-
-pub const GET_OBJECT_HANDLES: u16 = 0x1007;
-
-pub const GET_OBJECT_INFO: u16 = 0x1008;
-
-pub const GET_OBJECT: u16 = 0x1009;
-
-pub const DELETE_OBJECT: u16 = 0x100b;
-
-pub const SEND_OBJECT_INFO: u16 = 0x100c;
-
-pub const SEND_OBJECT: u16 = 0x100d;
-
-pub const GET_PARTIAL_OBJECT: u16 = 0x101b;
+/// One operation: its code, and how many parameters it has.
+#[derive(Clone, Copy, Debug, PartialEq, Eq)]
+pub struct Operation {
+    pub code: OperationCode,
+    pub parameters: u8,
+}
 
 /// Every operation, by ascending code.
 pub const OPERATIONS: [Operation; 12] = [
     Operation {
-        code: GET_DEVICE_INFO,
+        code: OperationCode::GetDeviceInfo,
         parameters: 0,
     },
     Operation {
-        code: OPEN_SESSION,
+        code: OperationCode::OpenSession,
         parameters: 1,
     },
     Operation {
-        code: CLOSE_SESSION,
+        code: OperationCode::CloseSession,
         parameters: 0,
     },
     Operation {
-        code: GET_STORAGE_IDS,
+        code: OperationCode::GetStorageIds,
         parameters: 0,
     },
     Operation {
-        code: GET_STORAGE_INFO,
+        code: OperationCode::GetStorageInfo,
         parameters: 1,
     },
     Operation {
-        code: GET_OBJECT_HANDLES,
+        code: OperationCode::GetObjectHandles,
         parameters: 3,
     },
     Operation {
-        code: GET_OBJECT_INFO,
+        code: OperationCode::GetObjectInfo,
         parameters: 1,
     },
     Operation {
-        code: GET_OBJECT,
+        code: OperationCode::GetObject,
         parameters: 1,
     },
     Operation {
-        code: DELETE_OBJECT,
+        code: OperationCode::DeleteObject,
         parameters: 2,
     },
     Operation {
-        code: SEND_OBJECT_INFO,
+        code: OperationCode::SendObjectInfo,
         parameters: 2,
     },
     Operation {
-        code: SEND_OBJECT,
+        code: OperationCode::SendObject,
         parameters: 0,
     },
     Operation {
-        code: GET_PARTIAL_OBJECT,
+        code: OperationCode::GetPartialObject,
         parameters: 3,
     },
 ];
 
 impl Operation {
     fn has_code(&self, code: u16) -> bool
-        ensures { result ≡ (self.now.code == code) }
+        ensures { result ≡ (operation_number self.now.code == code) }
     {
-        self.code == code
+        self.code.number() == code
     }
 }
 
 /// The operation with this code, if it is known.
 pub fn operation_of(code: u16) -> Option<Operation>
-    ensures { result ≡ operation_of code }
+    ensures value { result ≡ operation_of code }
+    ensures code { IfSome result (λ o. operation_number o.code ≡ code) }
 {
-    for operation in &OPERATIONS {
-        if operation.has_code(code) {
-            return Some(*operation);
-        }
-    }
-    None
+    OPERATIONS
+        .iter()
+        .find(|operation| operation.has_code(code))
+        .copied()
 }

@@ -1,13 +1,34 @@
 //! Writes at a place of the caller's buffer, one behind the other. They serve the crates above, whose public calls ask for the
 //! room first.
-ghost use Rattle.std.specs.Prelude.{◌≡◌, ◌+◌, ◌*◌, ◌^◌, ◌<◌, ◌≤◌, [], ◌∷◌, length};
+//!
+//! `out` and `place` stay two parameters: a struct over the buffer, or its rest handed back, would need in each contract a
+//! clause on where it is written back to.
+ghost use Rattle.std.specs.Prelude.{◌≡◌, ℕ, ◌+◌, ◌*◌, ◌≤◌, List, map, length};
 ghost use Rattle.byte_parts.specs.Numbers.{le};
-ghost use Rattle.object.specs.Names.{unit_bytes};
 ghost use Rattle.wire.specs.Containers.{numbers, head};
 ghost use Rattle.wire.specs.Strings.{string, array};
 ghost use Rattle.wire.specs.Writing.{Wrote};
 
-use crate::container::HEAD;
+use crate::container::{HEAD, Heading};
+use byte_parts::number::Number;
+
+/// What is put into a buffer as a whole.
+pub trait Put {
+    ghost bytes: { Self → List ℕ };
+
+    // That its numbers fit their bytes.
+    ghost fits: { Self → Type 0 };
+
+    /// How many bytes it has.
+    fn size(&self) -> usize
+        ensures { result ≡ length (bytes self.now) };
+
+    /// Puts its bytes into `out` at `place`, and answers the place behind them.
+    fn put(&self, out: &mut [u8], place: usize) -> usize
+        requires { place + length (bytes self.now) ≤ length out.old }
+        ensures bytes { Wrote place (bytes self.now) out.old out.new result }
+        ensures fits { fits self.now };
+}
 
 /// Puts `bytes` into `out` at `place`, and answers the place behind them.
 pub fn put_bytes(out: &mut [u8], place: usize, bytes: &[u8]) -> usize
@@ -19,54 +40,24 @@ pub fn put_bytes(out: &mut [u8], place: usize, bytes: &[u8]) -> usize
     end
 }
 
-pub fn put_u8(out: &mut [u8], place: usize, number: u8) -> usize
-    requires { place + 1 ≤ length out.old }
-    ensures { Wrote place (number ∷ []) out.old out.new result }
+/// Puts a number.
+pub fn put_number<T: Number>(out: &mut [u8], place: usize, number: T) -> usize
+    requires { place + T.WIDTH ≤ length out.old }
+    ensures { Wrote place (le T.WIDTH (T.number number)) out.old out.new result }
 {
-    put_bytes(out, place, &[number])
+    let end = place + T::WIDTH;
+    number.write_le(&mut out[place..end]);
+    end
 }
 
-pub fn put_u16(out: &mut [u8], place: usize, number: u16) -> usize
-    requires { place + 2 ≤ length out.old }
-    ensures { Wrote place (le 2 number) out.old out.new result }
-{
-    put_bytes(out, place, &number.to_le_bytes())
-}
-
-pub fn put_u32(out: &mut [u8], place: usize, number: u32) -> usize
-    requires { place + 4 ≤ length out.old }
-    ensures { Wrote place (le 4 number) out.old out.new result }
-{
-    put_bytes(out, place, &number.to_le_bytes())
-}
-
-pub fn put_u64(out: &mut [u8], place: usize, number: u64) -> usize
-    requires { place + 8 ≤ length out.old }
-    ensures { Wrote place (le 8 number) out.old out.new result }
-{
-    put_bytes(out, place, &number.to_le_bytes())
-}
-
-/// Puts 16-bit numbers one behind the other.
-pub fn put_u16s(out: &mut [u8], place: usize, list: &[u16]) -> usize
-    requires { place + 2 * length list.now ≤ length out.old }
-    ensures { Wrote place (numbers 2 list.now) out.old out.new result }
+/// Puts numbers one behind the other.
+pub fn put_numbers<T: Number>(out: &mut [u8], place: usize, list: &[T]) -> usize
+    requires { place + T.WIDTH * length list.now ≤ length out.old }
+    ensures { Wrote place (numbers T.WIDTH (map T.number list.now)) out.old out.new result }
 {
     let mut next = place;
     for number in list {
-        next = put_u16(out, next, *number);
-    }
-    next
-}
-
-/// Puts 32-bit numbers one behind the other.
-pub fn put_u32s(out: &mut [u8], place: usize, list: &[u32]) -> usize
-    requires { place + 4 * length list.now ≤ length out.old }
-    ensures { Wrote place (numbers 4 list.now) out.old out.new result }
-{
-    let mut next = place;
-    for number in list {
-        next = put_u32(out, next, *number);
+        next = put_number(out, next, *number);
     }
     next
 }
@@ -78,11 +69,11 @@ pub fn put_string(out: &mut [u8], place: usize, units: &[u16]) -> usize
     ensures { Wrote place (string units.now) out.old out.new result }
 {
     if units.is_empty() {
-        return put_u8(out, place, 0);
+        return put_number(out, place, 0u8);
     }
-    let next = put_u8(out, place, units.len() as u8 + 1);
-    let next = put_u16s(out, next, units);
-    put_u16(out, next, 0)
+    let next = put_number(out, place, units.len() as u8 + 1);
+    let next = put_numbers(out, next, units);
+    put_number(out, next, 0u16)
 }
 
 /// Puts a count of things in memory in four bytes.
@@ -90,25 +81,27 @@ pub fn put_count(out: &mut [u8], place: usize, count: usize) -> usize
     requires { place + 4 ≤ length out.old }
     ensures { Wrote place (le 4 count) out.old out.new result }
 {
-    put_u32(out, place, (count % 0x1_0000_0000) as u32)
+    put_number(out, place, (count % 0x1_0000_0000) as u32)
 }
 
-/// Puts the head of a container whose payload has `len` bytes.
-pub fn put_head(out: &mut [u8], kind: u16, code: u16, transaction: u32, len: usize) -> usize
+/// Puts the head of a container of any type, whose payload has `len` bytes.
+#[tactic(auto, using(crate::proofs::Puts::put_then), unfolding(crate::specs::Containers::head))]
+pub fn put_head(out: &mut [u8], kind: u16, heading: Heading, len: usize) -> usize
     requires { 12 + len ≤ length out.old }
-    ensures { Wrote 0 (head kind code transaction len) out.old out.new result }
+    ensures { Wrote 0 (head kind heading.code heading.transaction len) out.old out.new result }
 {
     let next = put_count(out, 0, HEAD + len);
-    let next = put_u16(out, next, kind);
-    let next = put_u16(out, next, code);
-    put_u32(out, next, transaction)
+    let next = put_number(out, next, kind);
+    let next = put_number(out, next, heading.code);
+    put_number(out, next, heading.transaction)
 }
 
-/// Puts an array of 32-bit numbers.
-pub fn put_array(out: &mut [u8], place: usize, list: &[u32]) -> usize
-    requires { place + (4 + 4 * length list.now) ≤ length out.old }
-    ensures { Wrote place (array 4 list.now) out.old out.new result }
+/// Puts an array of numbers.
+#[tactic(auto, using(crate::proofs::Puts::length_put))]
+pub fn put_array<T: Number>(out: &mut [u8], place: usize, list: &[T]) -> usize
+    requires { place + (4 + T.WIDTH * length list.now) ≤ length out.old }
+    ensures { Wrote place (array T.WIDTH (map T.number list.now)) out.old out.new result }
 {
     let next = put_count(out, place, list.len());
-    put_u32s(out, next, list)
+    put_numbers(out, next, list)
 }

@@ -6,7 +6,7 @@ pub mod write;
 /// The length of the longest response.
 pub const MAX_RESPONSE: usize = 32;
 
-/// Up to five parameters.
+/// Up to five parameters, in the value itself: the library has no heap.
 #[derive(Clone, Copy)]
 pub struct Parameters {
     values: [u32; 5],

@@ -2,8 +2,7 @@
 ghost use Rattle.wire.specs.Samples.{Samples};
 
 /// Bears the samples: strings and a command are the bytes that are written out by hand.
-pub fn samples_hold() -> bool
+#[tactic(auto, using(crate::proofs::Shown::samples))]
+pub fn samples_hold()
     ensures { Samples }
-{
-    true
-}
+{}

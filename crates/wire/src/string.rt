@@ -5,7 +5,7 @@ ghost use Rattle.wire.specs.Laws.{StringsReadBack};
 ghost use Rattle.wire.specs.Strings.{closed_units, string_in};
 ghost use Rattle.wire.specs.Texts.{text_parts, read_parts};
 
-use byte_parts::cut::{cut_u8, cut_u16};
+use byte_parts::cut::cut_number;
 
 /// A string at the front of the caller's bytes: its units, two bytes each with the lower one first and without the closing
 /// 0, and the bytes behind it.
@@ -28,16 +28,14 @@ fn read_units(bytes: &[u8], count: usize) -> Option<Text<'_>>
     ensures { option_map text_parts result ≡ option_map read_parts (closed_units count bytes.now) }
 {
     let mut rest = bytes;
-    let mut left = count;
-    while left > 0 {
-        let (unit, after) = cut_u16(rest)?;
+    for _ in 0..count {
+        let (unit, after) = cut_number(rest)?;
         if is_closing(unit) {
             return None;
         }
         rest = after;
-        left -= 1;
     }
-    let (end, behind) = cut_u16(rest)?;
+    let (end, behind) = cut_number(rest)?;
     if !is_closing(end) {
         return None;
     }
@@ -49,11 +47,12 @@ fn read_units(bytes: &[u8], count: usize) -> Option<Text<'_>>
 }
 
 /// Reads the string at the front, if it is well formed.
+#[tactic(auto, using(crate::proofs::ReadBack::strings_back, crate::proofs::Units::string_counted))]
 pub fn read_string(bytes: &[u8]) -> Option<Text<'_>>
     ensures value { option_map text_parts result ≡ option_map read_parts (string_in bytes.now) }
     ensures law { StringsReadBack }
 {
-    let (count, rest) = cut_u8(bytes)?;
+    let (count, rest) = cut_number::<u8>(bytes)?;
     match count {
         0 => {
             let (units, rest) = rest.split_at(0);

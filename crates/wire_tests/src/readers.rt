@@ -1,96 +1,81 @@
 //! Readers on damaged bytes.
 use datasets::info::ObjectInfo;
-use std::test::Fail;
 use wire::command::Command;
-use wire::container::read_data;
+use wire::container::{Heading, read_data};
 use wire::string::read_string;
 
 /// OpenSession of session 1.
 const OPENING: [u8; 16] = [0x10, 0, 0, 0, 1, 0, 2, 0x10, 0, 0, 0, 0, 1, 0, 0, 0];
 
-/// What a command says.
-struct Said {
-    code: u16,
-    transaction: u32,
-    parameter: u32,
-}
-
 /// What it says once the byte at a place from 6 on is turned.
-const TURNED: [Said; 10] = [
-    Said {
+const TURNED: [Command; 10] = [
+    Command {
         code: 0x10fd,
         transaction: 0,
-        parameter: 1,
+        parameters: [1, 0, 0, 0, 0],
     },
-    Said {
+    Command {
         code: 0xef02,
         transaction: 0,
-        parameter: 1,
+        parameters: [1, 0, 0, 0, 0],
     },
-    Said {
+    Command {
         code: 0x1002,
         transaction: 0x0000_00ff,
-        parameter: 1,
+        parameters: [1, 0, 0, 0, 0],
     },
-    Said {
+    Command {
         code: 0x1002,
         transaction: 0x0000_ff00,
-        parameter: 1,
+        parameters: [1, 0, 0, 0, 0],
     },
-    Said {
+    Command {
         code: 0x1002,
         transaction: 0x00ff_0000,
-        parameter: 1,
+        parameters: [1, 0, 0, 0, 0],
     },
-    Said {
+    Command {
         code: 0x1002,
         transaction: 0xff00_0000,
-        parameter: 1,
+        parameters: [1, 0, 0, 0, 0],
     },
-    Said {
+    Command {
         code: 0x1002,
         transaction: 0,
-        parameter: 0x0000_00fe,
+        parameters: [0x0000_00fe, 0, 0, 0, 0],
     },
-    Said {
+    Command {
         code: 0x1002,
         transaction: 0,
-        parameter: 0x0000_ff01,
+        parameters: [0x0000_ff01, 0, 0, 0, 0],
     },
-    Said {
+    Command {
         code: 0x1002,
         transaction: 0,
-        parameter: 0x00ff_0001,
+        parameters: [0x00ff_0001, 0, 0, 0, 0],
     },
-    Said {
+    Command {
         code: 0x1002,
         transaction: 0,
-        parameter: 0xff00_0001,
+        parameters: [0xff00_0001, 0, 0, 0, 0],
     },
 ];
 
 #[test]
-fn commands(rt: HostRuntime) -> Result<(), Fail> {
-    let whole = OPENING;
+fn commands(rt: HostRuntime) {
     for len in 0..16 {
-        assert!(rt; Command::read(&whole[0..len]).is_err());
+        assert!(rt; Command::read(&OPENING[..len]).is_err());
     }
     for place in 0..6 {
         let mut bytes = OPENING;
         bytes[place] ^= 0xff;
         assert!(rt; Command::read(&bytes).is_err());
     }
-    for (i, said) in TURNED.iter().enumerate() {
+    for (i, command) in TURNED.iter().enumerate() {
         let mut bytes = OPENING;
         bytes[6 + i] ^= 0xff;
-        let Ok(command) = Command::read(&bytes) else {
-            return Err(Fail::new("a command is refused"));
-        };
-        assert_eq!(rt; command.code, said.code);
-        assert_eq!(rt; command.transaction, said.transaction);
-        assert_eq!(rt; command.parameters, [said.parameter, 0, 0, 0, 0]);
+        assert_eq!(rt; Command::read(&bytes), Ok(*command));
     }
-    Ok(())
 }
 
 /// Three bytes of data of SendObject in transaction 7.
@@ -98,16 +83,27 @@ const SENDING: [u8; 15] = [15, 0, 0, 0, 2, 0, 0x0d, 0x10, 7, 0, 0, 0, 1, 2, 3];
 
 #[test]
 fn data(rt: HostRuntime) {
-    let whole = SENDING;
+    let heading = Heading {
+        code: 0x100d,
+        transaction: 7,
+    };
     for len in 0..15 {
-        assert!(rt; read_data(&whole[0..len], 0x100d, 7).is_err());
+        assert!(rt; read_data(&SENDING[..len], heading).is_err());
     }
-    assert!(rt; read_data(&whole, 0x100c, 7).is_err());
-    assert!(rt; read_data(&whole, 0x100d, 8).is_err());
+    let other_code = Heading {
+        code: 0x100c,
+        ..heading
+    };
+    assert!(rt; read_data(&SENDING, other_code).is_err());
+    let other_transaction = Heading {
+        transaction: 8,
+        ..heading
+    };
+    assert!(rt; read_data(&SENDING, other_transaction).is_err());
     for place in 0..15 {
         let mut bytes = SENDING;
         bytes[place] ^= 0xff;
-        match read_data(&bytes, 0x100d, 7) {
+        match read_data(&bytes, heading) {
             Ok(payload) => {
                 assert!(rt; place >= 12);
                 assert_eq!(rt; payload.place, 12);
@@ -181,10 +177,8 @@ const STRINGS: [Case; 12] = [
 #[test]
 fn strings(rt: HostRuntime) {
     for case in &STRINGS {
-        match read_string(case.bytes) {
-            Some(text) => assert_eq!(rt; Some(text.units.len() / 2), case.units),
-            None => assert_eq!(rt; None, case.units),
-        }
+        let units = read_string(case.bytes).map(|text| text.units.len() / 2);
+        assert_eq!(rt; units, case.units);
     }
 }
 
@@ -203,13 +197,12 @@ fn is_bound(place: usize) -> bool {
 
 #[test]
 fn object_infos(rt: HostRuntime) {
-    let whole = TEXT;
-    assert!(rt; ObjectInfo::read(&whole).is_ok());
+    assert!(rt; ObjectInfo::read(&TEXT).is_ok());
     for len in 0..60 {
-        assert!(rt; ObjectInfo::read(&whole[0..len]).is_err());
+        assert!(rt; ObjectInfo::read(&TEXT[..len]).is_err());
     }
     let mut longer = [0; 61];
-    longer[0..60].copy_from_slice(&whole);
+    longer[..60].copy_from_slice(&TEXT);
     assert!(rt; ObjectInfo::read(&longer).is_err());
     for place in 0..60 {
         let mut bytes = TEXT;
@@ -219,8 +212,8 @@ fn object_infos(rt: HostRuntime) {
                 assert!(rt; !is_bound(place));
                 assert_eq!(rt; info.storage != 0x0002_0001, place < 4);
                 assert_eq!(rt; info.format != 0x3004, place == 4 || place == 5);
-                assert_eq!(rt; info.size != 258, place >= 8 && place < 12);
-                assert_eq!(rt; info.parent != 0x8000_0001, place >= 38 && place < 42);
+                assert_eq!(rt; info.size != 258, (8..12).contains(&place));
+                assert_eq!(rt; info.parent != 0x8000_0001, (38..42).contains(&place));
                 assert_eq!(rt;
                     info.name.units() != [0x41].as_slice(),
                     place == 53 || place == 54

@@ -1,8 +1,11 @@
+use Rattle.std.proofs.Common.{ap, ◌∙◌}
+use Rattle.std.proofs.lemmas.List.{map-id}
 use Rattle.wire.specs.Strings.{array}
-use Rattle.wire.proofs.Puts.{put_then}
+use Rattle.wire.proofs.Puts.{put_then, put_same}
 use Rattle.datasets.proofs.device.put_codes.Goals as goal
 
 pub returns : goal.returns
 unfolding array
 returns c =
-    put_then c.put_count-next.ensures (put_then c.put_operation_codes-next.ensures (put_then c.put_bytes-next.ensures (put_then c.put_count-next-2.ensures c.put_format_numbers.ensures)))
+    put_then (put_same (ap (array 2) (map-id _ ∙ c.operation_codes.ensures)) c.put_array-next.ensures)
+    (put_then c.put_bytes-next.ensures (put_same (ap (array 2) (map-id _ ∙ c.format_numbers.ensures)) c.put_array.ensures))

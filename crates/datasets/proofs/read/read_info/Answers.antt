@@ -29,4 +29,4 @@ returns-in_err-name c =
 pub returns : goal.returns
 returns c =
     all_read c.args.bytes.now _ c.in_ok-strings.strings.now c.in_ok-strings.ensures c.in_ok-filename.filename.units.now c.in_ok-filename.filename.rest.now c.in_ok-filename.ensures.value (sym c.if-not-are_strings.ensures)
-    c.in_ok-protection.protection c.in_ok-name.name c.in_ok-protection.ensures c.in_ok-name.ensures c.u32_at.ensures c.u16_at.ensures c.u32_at-2.ensures c.u32_at-3.ensures
+    c.in_ok-protection.protection c.in_ok-name.name c.in_ok-protection.ensures c.in_ok-name.ensures c.number_at.ensures c.number_at-2.ensures c.number_at-3.ensures c.number_at-4.ensures

@@ -1,17 +1,11 @@
-use Rattle.std.proofs.Common.{sym, ◌∙◌}
-use Rattle.wire.specs.Operations.{operations, operation_of}
-use Rattle.wire.proofs.Rows.{row_found, row_next, row_none}
+use Rattle.std.proofs.Common.{◌==◌, ◌∙◌, rules, tests}
+use Rattle.std.proofs.lemmas.Iterator.{YieldsList-from_slice}
+use Rattle.std.proofs.lemmas.Iterator.Search.{find_from_yields_List}
+use Rattle.wire.specs.Operations.{operation_number, operations, operation_of}
 use Rattle.wire.proofs.operation.operation_of.Goals as goal
 
-pub returns-then-has_code : goal.returns-then-has_code
+pub returns-clause-value : goal.returns-clause-value
 unfolding operation_of
-returns-then-has_code c =
-    sym (row_found operations c.loop-operation.operation-index c.args.code _ c.loop-operation-test.true (sym c.if-has_code.ensures)) ∙ c.loop-operation.invariant
-
-pub loop-operation-preserved : goal.loop-operation-preserved
-loop-operation-preserved c =
-    sym (row_next operations c.loop-operation.operation-index c.args.code (record { code = 0; parameters = 0 }) c.loop-operation-test.true (sym c.if-has_code.ensures)) ∙ c.loop-operation.invariant
-
-pub returns : goal.returns
-unfolding operation_of
-returns c = sym (row_none operations c.loop-operation.operation-index c.args.code (record { code = 0; parameters = 0 }) c.loop-operation-test.false) ∙ c.loop-operation.invariant
+returns-clause-value c =
+    c.copied.ensures
+    ∙ find_from_yields_List (λ o. operation_number o.code == c.args.code) _ _ _ c.find.ensures.ran (YieldsList-from_slice operations cc) (λ x b q k. search (rules, tests))

@@ -1,12 +1,11 @@
-use Rattle.std.proofs.Common.{rules}
-use Rattle.wire.specs.Containers.{command_in}
-use Rattle.wire.proofs.ReadBack.{commands_law}
+use Rattle.std.proofs.Common.{ℕ, List, Ok, ap, ◌∙◌, rules}
+use Rattle.wire.specs.Containers.{number_at, command_in}
+use Rattle.wire.proofs.Mapped.{mapped}
 use Rattle.wire.proofs.command.Command.read.Goals as goal
 
-pub returns-then-not-is_command : goal.returns-then-not-is_command
+pub returns-clause-value : goal.returns-clause-value
 unfolding command_in
-returns-then-not-is_command c = record { value = search rules; law = commands_law }
-
-pub returns : goal.returns
-unfolding command_in
-returns c = record { value = search rules; law = commands_law }
+returns-clause-value c =
+    let bs = c.args.bytes.now in
+    let ps = mapped _ (λ place. number_at 4 place bs) _ (λ x y f' k. search rules) _ _ c.map.ensures.items in
+    ap (λ (qs : List ℕ). Ok (record { code = c.number_at.result; transaction = c.number_at-2.result; parameters = qs })) ps ∙ search rules

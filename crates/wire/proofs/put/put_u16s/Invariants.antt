@@ -1,7 +1,0 @@
-use Rattle.std.proofs.Common.{take}
-use Rattle.wire.specs.Containers.{numbers}
-use Rattle.wire.specs.Writing.{Wrote}
-use Rattle.wire.proofs.put.put_u16s.Given as goal
-
-abbrev pub invariant-loop-number : goal.invariant-loop-number
-invariant-loop-number l = Wrote l.place (numbers 2 (take l.number-index l.list)) l.initial.out l.out l.next
