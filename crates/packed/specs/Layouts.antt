@@ -1,23 +1,16 @@
 -- How the files lie in a packed store.
-use Rattle.std.specs.Prelude.{◌≡◌, ℕ, Bool, true, false, ◌&&◌, List, [], length, take, nat_le}
+use Rattle.std.specs.Prelude.{◌≡◌, ℕ, Bool, true, ◌&&◌, List, length, nat_le}
 use Rattle.std.specs.Borrow.{MutBor}
-use Rattle.store.specs.Contents.{Contents}
-use Rattle.store.specs.Sound.{max_capacity, max_files}
-use Rattle.table.specs.declared.fault.WrongMemory.{WrongMemory}
-use Rattle.table.specs.declared.fault.WrongMemory.TheVariants.{OutOfRange}
+use Rattle.store.specs.Changes.{legal_sizes}
 use Rattle.lent.specs.declared.memory.Memory.{Memory}
 use Rattle.table.specs.declared.place.Place.{Place}
-use Rattle.lent.specs.Kept.{held_in, Readable}
+use Rattle.lent.specs.Kept.{held_in, rows, empty, Readable}
 use Rattle.table.specs.Rows.{lengths_in}
 use Rattle.table.specs.Tables.{Within, Apart}
 
 -- so many rows and bytes suit
 abbrev pub suits : ℕ → ℕ → Bool
-suits rows bytes = nat_le 1 rows && (nat_le rows max_files && nat_le bytes max_capacity)
-
--- an empty store in so many rows and bytes
-abbrev pub empty : ℕ → ℕ → Contents
-empty rows bytes = record { capacity = bytes; limit = rows; files = [] }
+suits rows bytes = nat_le 1 rows && legal_sizes rows bytes
 
 -- memory of a new store in these rows and bytes, which are lent to it as they are
 pub record StartsIn (places : MutBor (List Place)) (bytes : MutBor (List ℕ)) (m : Memory) : Type 0 where
@@ -28,14 +21,9 @@ pub record StartsIn (places : MutBor (List Place)) (bytes : MutBor (List ℕ)) (
   pub rows_lent : m.places.ghost_name ≡ places.ghost_name
   pub bytes_lent : m.bytes.ghost_name ≡ bytes.ghost_name
 
--- the refusal of rows and bytes that do not suit
-pub record Refused (rows bytes : ℕ) (fault : WrongMemory) : Type 0 where
-  pub unsuited : suits rows bytes ≡ false
-  pub fault_is : fault ≡ OutOfRange
-
 -- where the files lie: the rows in use. The order in which they lie is free, but for the three facts that follow
 abbrev pub where_files_lie : Memory → List Place
-where_files_lie m = take m.count m.places.now
+where_files_lie m = rows m
 
 -- every file lies in front of the total
 abbrev pub LiesInFront : Memory → Type 0
@@ -50,5 +38,8 @@ abbrev pub HasNoGap : Memory → Type 0
 HasNoGap m = lengths_in (where_files_lie m) ≡ m.total
 
 -- what holds of a packed store's memory between two calls
-abbrev pub Packed : Memory → Type 0
-Packed m = Readable m × LiesInFront m × LiesApart m × HasNoGap m
+pub record Packed (m : Memory) : Type 0 where
+  pub readable : Readable m
+  pub in_front : LiesInFront m
+  pub apart : LiesApart m
+  pub no_gap : HasNoGap m

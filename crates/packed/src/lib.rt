@@ -4,4 +4,3 @@
 mod changes;
 mod gap;
 pub mod packed_store;
-mod prepare;

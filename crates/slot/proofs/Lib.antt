@@ -1,5 +1,5 @@
+pub mod Spare
+pub mod Numbered
+pub mod Keeping
 pub mod Adding
 pub mod Removing
-pub mod Rowed
-pub mod Starting
-pub mod Turning

@@ -1,8 +1,10 @@
 //! The slotted store.
 ghost use Rattle.std.specs.Prelude.{◌≡◌, false, length, MatchResult};
-ghost use Rattle.store.specs.SoundProp.{sound_from};
-ghost use Rattle.lent.specs.Kept.{held_in, Counted, StaysSound, LiesWithin};
-ghost use Rattle.slot.specs.Slots.{SlotsWhole, SlotsInside, SlotsDistinct, SlotsFill, StartsIn, Refused};
+ghost use Rattle.store.specs.Sound.{Sound};
+ghost use Rattle.store.specs.SoundProp.{sound_is_prop};
+ghost use Rattle.table.specs.Faults.{Refused};
+ghost use Rattle.lent.specs.Kept.{held_in, Counted, LiesWithin};
+ghost use Rattle.slot.specs.Slots.{suits, StartsIn, SlotsWhole, SlotsInside, SlotsDistinct, SlotsFill};
 
 use crate::{changes, prepare};
 use lent::memory::Memory;
@@ -19,7 +21,7 @@ use table::place::Place;
 pub struct SlotStore<'a> {
     memory: Memory<'a>,
     ghost counted: { Counted memory },
-    ghost sound: { StaysSound memory },
+    ghost sound: { Sound (held_in memory) } by { sound_is_prop (held_in memory) },
     ghost within: { LiesWithin memory },
     ghost whole: { SlotsWhole memory },
     ghost inside: { SlotsInside memory },
@@ -30,12 +32,18 @@ pub struct SlotStore<'a> {
 impl<'a> SlotStore<'a> {
     /// An empty store in 1 to 1,024 rows and 32,768 bytes for each, which are its capacity. Other memory is refused, and stays as it is.
     pub fn new(places: &'a mut [Place], bytes: &'a mut [u8]) -> Result<SlotStore<'a>, WrongMemory>
-        ensures { MatchResult result (λ s. StartsIn places.entry bytes.entry s.memory) (λ f. Refused (length places.old) (length bytes.old) f) }
+        ensures { MatchResult result (λ s. StartsIn places.entry bytes.entry s.memory) (λ f. Refused (suits (length places.old) (length bytes.old)) f) }
     {
         if !prepare::is_suitable(places.len(), bytes.len()) {
             return Err(WrongMemory::OutOfRange);
         }
-        let memory = prepare::emptied(places, bytes);
+        prepare::number_slots(places);
+        let memory = Memory {
+            places,
+            bytes,
+            count: 0,
+            total: 0,
+        };
         Ok(SlotStore { memory })
     }
 
@@ -45,43 +53,46 @@ impl<'a> SlotStore<'a> {
         ensures bytes { result.1.now ≡ self.entry.memory.bytes.now }
         ensures lenders { (result.0.ghost_name ≡ self.entry.memory.places.ghost_name) × (result.1.ghost_name ≡ self.entry.memory.bytes.ghost_name) }
     {
-        let SlotStore { memory } = self;
-        let Memory { places, bytes, .. } = memory;
+        let SlotStore {
+            memory: Memory { places, bytes, .. },
+        } = self;
         (places, bytes)
     }
 }
 
+// These calls stand with each layout, since the project tries a wrong answer of either store in its own crate: a store generic in its
+// layout would hold them once, in `lent`.
 impl<'a> ReadStore for SlotStore<'a> {
     ghost contents = { λ s. held_in s.memory };
 
-    ghost sound = { λ s. sound_from (held_in s.memory) s.sound };
+    ghost sound = { λ s. s.sound };
 
     fn capacity(&self) -> u32 {
-        self.memory.capacity()
+        self.memory.files().capacity()
     }
 
     fn limit(&self) -> u32 {
-        self.memory.limit()
+        self.memory.files().limit()
     }
 
     fn total(&self) -> u32 {
-        self.memory.total()
+        self.memory.files().total()
     }
 
     fn count(&self) -> u32 {
-        self.memory.count()
+        self.memory.files().count()
     }
 
     fn next_above(&self, number: u32) -> Option<u32> {
-        self.memory.next_above(number)
+        self.memory.files().next_above(number)
     }
 
     fn describe(&self, number: u32) -> Option<FileInfo> {
-        self.memory.describe(number)
+        self.memory.files().describe(number)
     }
 
     fn copy(&self, number: u32, offset: u32, into: &mut [u8]) -> usize {
-        self.memory.copy(number, offset, into)
+        self.memory.files().copy(number, offset, into)
     }
 }
 

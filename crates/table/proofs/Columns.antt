@@ -1,12 +1,12 @@
 -- The numbers of a table by index, and what the lists of files say of them.
-use Rattle.std.proofs.Common.{◌≡◌, ℕ, zero, suc, ◌+◌, ◌-◌, ◌<◌, ◌≤◌, Bool, true, false, cond, ◌||◌, eqb, ltb, ◌⊎◌, List, [], ◌∷◌, map, length, get_or, take, drop, Some, None, Option, sym, refl, ap, ◌∙◌, subst, inl, inr, ⊎_elim, arith}
+use Rattle.std.proofs.Common.{◌≡◌, ℕ, zero, suc, ◌<◌, ◌≤◌, ltb, List, [], ◌∷◌, length, get_or, Some, None, refl, ap, ◌∙◌, arith}
 use Rattle.std.proofs.lemmas.List.{get_or-map, length-map}
-use Rattle.std.proofs.lemmas.Bool.{lt-ltb, le-ltb, cases_eq, cases_lt, cond-true, cond-false}
-use Rattle.store.specs.Contents.{File, Entry, lookup, next_above}
+use Rattle.std.proofs.lemmas.Bool.{lt-ltb, le-ltb, cond-true, cond-false}
+use Rattle.store.specs.Contents.{lookup, next_above}
 use Rattle.store.specs.Sound.{Ascending}
 use Rattle.store.proofs.Lookups.{lookup_here, lookup_past}
 use Rattle.table.specs.declared.place.Place.{Place}
-use Rattle.table.specs.Found.{Missing, Ranked, StandsAt}
+use Rattle.table.specs.Found.{Missing}
 use Rattle.table.specs.Tables.{file_at, entry_at, files_in, numbers_in, Rising}
 
 pub numbers_length : (ps : List Place) → length (numbers_in ps) ≡ length ps
@@ -31,14 +31,6 @@ rising_from bs [] low a j k h l = absurd (omega arith)
 rising_from bs (p ∷ ps) low a j zero h l = absurd (omega arith)
 rising_from bs (p ∷ ps) low a zero (suc k) h l = numbers_above bs ps p.number a.1 k (omega (arith, numbers_length ps))
 rising_from bs (p ∷ ps) low a (suc j) (suc k) h l = rising_from bs ps p.number a.1 j k (omega arith) (omega arith)
-
--- what is at most n at m is so up to m
-pub up_to : (ns : List ℕ) (m n : ℕ) → Rising ns → m < length ns → get_or ns m 0 ≤ n → (k : ℕ) → k < m + 1 → get_or ns k 0 ≤ n
-up_to ns m n asc h l k b =
-    ⊎_elim
-    (λ (e : k ≡ m). let v : get_or ns k 0 ≡ get_or ns m 0 = ap (λ j. get_or ns j 0) e in omega arith)
-    (λ (e : k ≡ m → ⊥). let v = asc k m (omega arith) h in omega arith)
-    (cases_eq k m)
 
 -- the file that a number finds is that of the row at its index
 pub lookup_at : (bs : List ℕ) (ps : List Place) (low n i : ℕ) (d : Place) → Ascending low (files_in bs ps) → i < length ps → get_or (numbers_in ps) i 0 ≡ n
@@ -68,37 +60,3 @@ next_none bs [] n b = refl
 next_none bs (p ∷ ps) n b =
     cond-false (ltb n p.number) (Some p.number) (next_above n (files_in bs ps)) (le-ltb n p.number (b 0 (omega arith)))
     ∙ next_none bs ps n (λ k l. b (suc k) (omega arith))
-
--- a number that is not the last of those at most n is no number of the table
-pub missing_from : (ps : List Place) (n r : ℕ) → Rising (numbers_in ps) → Ranked ps n r → (0 < r → get_or (numbers_in ps) (r - 1) 0 ≡ n → ⊥) → Missing ps n
-missing_from ps n r asc rank last k h e =
-    let len = numbers_length ps in
-    let same : (j : ℕ) → k ≡ j → get_or (numbers_in ps) j 0 ≡ n = λ j q. ap (λ i. get_or (numbers_in ps) i 0) (sym q) ∙ e in
-    let bound = rank.bound in
-    ⊎_elim
-    (λ (l : k < r).
-    ⊎_elim
-    (λ (q : k ≡ r - 1). last (omega arith) (same (r - 1) q))
-    (λ (q : k ≡ r - 1 → ⊥).
-    let a = asc k (r - 1) (omega arith) (omega arith) in
-    let b = rank.below (r - 1) (omega arith) in omega arith)
-    (cases_eq k (r - 1)))
-    (λ (l : r ≤ k).
-    let a = rank.above (omega arith) in
-    ⊎_elim
-    (λ (q : k ≡ r). let b = same r q in omega arith)
-    (λ (q : k ≡ r → ⊥). let b = asc r k (omega arith) (omega arith) in omega arith)
-    (cases_eq k r))
-    (cases_lt k r)
-
--- as many numbers are at most n as stand up to the row that has it
-pub ranked_behind : (ps : List Place) (n i : ℕ) → Rising (numbers_in ps) → StandsAt ps n i → Ranked ps n (i + 1)
-ranked_behind ps n i asc at =
-    let len = numbers_length ps in
-    let h = at.used in
-    let e = at.here in
-    record {
-      bound = omega arith;
-      below = up_to (numbers_in ps) i n asc (omega arith) (omega arith);
-      above = λ l. let a = asc i (i + 1) (omega arith) (omega arith) in omega arith;
-    }

@@ -1,5 +1,6 @@
 pub mod Columns
-pub mod Parts
 pub mod RowFiles
-pub mod RowParts
-pub mod Shifts
+pub mod Written
+pub mod Moves
+pub mod Searches
+pub mod Pairs

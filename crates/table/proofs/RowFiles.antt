@@ -1,7 +1,7 @@
 -- The files of a table after a row is put in or taken out, and after bytes are written.
-use Rattle.std.proofs.Common.{◌≡◌, ℕ, zero, suc, ◌+◌, ◌-◌, ◌<◌, ◌≤◌, eqb, ltb, List, [], ◌∷◌, ◌++◌, length, get_or, take, drop, sym, refl, ap, ◌∙◌, add-one, arith, length-drop, length-take-le, take-take, take_at}
-use lib.Seq.{take-append-add}
-use Rattle.std.proofs.lemmas.List.{drop-take}
+use Rattle.std.proofs.Common.{◌≡◌, ℕ, zero, suc, ◌+◌, ◌-◌, ◌<◌, ◌≤◌, eqb, ltb, List, [], ◌∷◌, length, get_or, take, drop, sym, refl, ap, ◌∙◌, arith, length-drop, length-take-le, take-take, rules}
+use Rattle.std.proofs.lemmas.List.{places, same_lists, drop-take}
+use Rattle.std.proofs.lemmas.List.Sums.{sum_by-cons}
 use Rattle.std.proofs.lemmas.Bool.{lt-ltb, le-ltb, eq-eqb, ne_eqb, cond-true, cond-false}
 use Rattle.std.specs.List.{insert as put_in, remove as cut_out}
 use Rattle.store.specs.Contents.{total}
@@ -15,28 +15,11 @@ use Rattle.table.proofs.Columns.{rising_from, numbers_length}
 
 -- the rows in use after one is put in
 pub used_with : (ps : List Place) (count i : ℕ) (p : Place) → i ≤ count → count < length ps → take (count + 1) (rows_with ps count i p) ≡ put_in (take count ps) i p
-used_with ps count i p h l =
-    let li : length (take i ps) ≡ i = length-take-le i ps (omega arith) in
-    let lc : length (take count ps) ≡ count = length-take-le count ps (omega arith) in
-    let ld : length (drop i (take count ps)) ≡ length (take count ps) - i = length-drop i (take count ps) in
-    let n : count + 1 ≡ length (take i ps) + suc (length (drop i (take count ps))) = omega arith in
-    ap (λ m. take m (rows_with ps count i p)) n
-    ∙ take-append-add (take i ps) (p ∷ (drop i (take count ps) ++ drop (count + 1) ps)) (suc (length (drop i (take count ps))))
-    ∙ ap (λ z. take i ps ++ (p ∷ z)) (take_at (drop i (take count ps)) (drop (count + 1) ps) (length (drop i (take count ps))) refl)
-    ∙ ap (λ z. z ++ (p ∷ drop i (take count ps))) (sym (take-take i count ps h))
+used_with ps count i p h l = same_lists _ _ (search (rules, places)) (λ k d b. grind (arith, places))
 
 -- the rows in use after one is taken out
 pub used_without : (ps : List Place) (count i : ℕ) → i < count → count ≤ length ps → take (count - 1) (rows_without ps count i) ≡ cut_out (take count ps) i
-used_without ps count i h l =
-    let li : length (take i ps) ≡ i = length-take-le i ps (omega arith) in
-    let lc : length (take count ps) ≡ count = length-take-le count ps l in
-    let ld : length (drop (i + 1) (take count ps)) ≡ length (take count ps) - (i + 1) = length-drop (i + 1) (take count ps) in
-    let n : count - 1 ≡ length (take i ps) + length (drop (i + 1) (take count ps)) = omega arith in
-    ap (λ m. take m (rows_without ps count i)) n
-    ∙ take-append-add (take i ps) (drop (i + 1) (take count ps) ++ (take 1 (drop i ps) ++ drop count ps)) (length (drop (i + 1) (take count ps)))
-    ∙ ap (λ z. take i ps ++ z) (take_at (drop (i + 1) (take count ps)) (take 1 (drop i ps) ++ drop count ps) (length (drop (i + 1) (take count ps))) refl)
-    ∙ ap (λ z. z ++ drop (i + 1) (take count ps)) (sym (take-take i count ps (omega arith)))
-    ∙ ap (λ m. take i (take count ps) ++ drop m (take count ps)) (add-one i)
+used_without ps count i h l = same_lists _ _ (search (rules, places)) (λ k d b. grind (arith, places))
 
 -- a row put in at its rank puts its file in by number
 put_file : (bs : List ℕ) (ps : List Place) (i : ℕ) (p : Place) → i ≤ length ps → ((k : ℕ) → k < i → get_or (numbers_in ps) k 0 ≤ p.number)
@@ -83,18 +66,16 @@ part_same bs cs front start len e h =
 pub total_files : (bs : List ℕ) (ps : List Place) → Within ps (length bs) → total (files_in bs ps) ≡ lengths_in ps
 total_files bs [] w = refl
 total_files bs (p ∷ ps) w =
-    let here = w 0 (omega arith) in
+    let here = w 0 p (omega arith) in
     let ld = length-drop p.start bs in
     let lt : length (take p.file.length (drop p.start bs)) ≡ p.file.length = length-take-le p.file.length (drop p.start bs) (omega arith) in
-    let rest = total_files bs ps (λ k h. w (suc k) (omega arith)) in
+    let rest = total_files bs ps (λ k d h. w (suc k) d (omega arith)) in
+    let sum = sum_by-cons (λ (q : Place). q.file.length) p ps in
     omega arith
 
-pub lengths_with : (ps : List Place) (i : ℕ) (p : Place) → lengths_in (put_in ps i p) ≡ lengths_in ps + p.file.length
-lengths_with ps zero p = omega arith
-lengths_with [] (suc i) p = omega arith
-lengths_with (x ∷ ps) (suc i) p = let r = lengths_with ps i p in omega arith
+-- the table is as long after a row is put in or taken out
+pub length_with : (ps : List Place) (count i : ℕ) (p : Place) → i ≤ count → count < length ps → length (rows_with ps count i p) ≡ length ps
+length_with ps count i p h l = search (rules, places)
 
-pub lengths_without : (ps : List Place) (i : ℕ) (d : Place) → i < length ps → lengths_in (cut_out ps i) + (get_or ps i d).file.length ≡ lengths_in ps
-lengths_without [] i d h = absurd (omega arith)
-lengths_without (x ∷ ps) zero d h = omega arith
-lengths_without (x ∷ ps) (suc i) d h = let r = lengths_without ps i d (omega arith) in omega arith
+pub length_without : (ps : List Place) (count i : ℕ) → i < count → count ≤ length ps → length (rows_without ps count i) ≡ length ps
+length_without ps count i h l = search (rules, places)

@@ -1,5 +1,5 @@
 -- The rows of a table after one is put in or taken out.
-use Rattle.std.specs.Prelude.{ℕ, ◌+◌, List, [], ◌∷◌, ◌++◌, take, drop}
+use Rattle.std.specs.Prelude.{ℕ, ◌+◌, List, ◌∷◌, ◌++◌, take, drop, sum_by}
 use Rattle.table.specs.declared.place.Place.{Place}
 
 -- the table with `place` at i, and those of the first `count` rows from there on one further; the row at `count` is lost
@@ -12,5 +12,4 @@ rows_without ps count i = take i ps ++ (drop (i + 1) (take count ps) ++ (take 1 
 
 -- how many bytes the files of these rows have
 abbrev pub lengths_in : List Place → ℕ
-lengths_in [] = 0
-lengths_in (p ∷ ps) = p.file.length + lengths_in ps
+lengths_in ps = sum_by (λ p. p.file.length) ps

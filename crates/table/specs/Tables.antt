@@ -1,7 +1,6 @@
 -- What the rows of a table stand for, and how their bytes lie.
-use Rattle.std.specs.Prelude.{◌≡◌, ℕ, ◌+◌, ◌<◌, ◌≤◌, List, [], ◌∷◌, map, length, take, drop, ◌≢◌, slice_index}
+use Rattle.std.specs.Prelude.{ℕ, ◌+◌, ◌<◌, ◌≤◌, List, [], ◌∷◌, map, length, take, drop, slice_index, All, AllPairs}
 use Rattle.store.specs.Contents.{File, Entry, Contents}
-use Rattle.store.specs.declared.info.FileInfo.{FileInfo}
 use Rattle.table.specs.declared.place.Place.{Place}
 
 -- the file that a row stands for, over the memory of bytes
@@ -22,20 +21,24 @@ abbrev pub files_in : List ℕ → List Place → List Entry
 files_in bytes [] = []
 files_in bytes (p ∷ ps) = entry_at bytes p ∷ files_in bytes ps
 
+-- what these rows hold over the memory of bytes, in a store for `limit` files
+abbrev pub holding : List Place → ℕ → List ℕ → Contents
+holding ps limit bytes = record { capacity = length bytes; limit = limit; files = files_in bytes ps }
+
 -- what memory holds of whose table the first `count` rows are in use
 abbrev pub held : List Place → ℕ → List ℕ → Contents
-held places count bytes =
-    record { capacity = length bytes; limit = length places; files = files_in bytes (take count places) }
+held places count bytes = holding (take count places) (length places) bytes
 
--- columns of a table: the numbers, and where each row's bytes begin and end
+-- columns of a table: the numbers, and where each row's bytes begin
 abbrev pub numbers_in : List Place → List ℕ
 numbers_in ps = map (λ p. p.number) ps
 
 abbrev pub starts_in : List Place → List ℕ
 starts_in ps = map (λ p. p.start) ps
 
-abbrev pub ends_in : List Place → List ℕ
-ends_in ps = map (λ p. p.start + p.file.length) ps
+-- where a row's bytes end
+abbrev pub end_of : Place → ℕ
+end_of p = p.start + p.file.length
 
 -- the numbers ascend strictly
 abbrev pub Rising : List ℕ → Type 0
@@ -43,10 +46,13 @@ Rising ns = (j k : ℕ) → j < k → k < length ns → slice_index ns j < slice
 
 -- each row's bytes end at or before `end`
 abbrev pub Within : List Place → ℕ → Type 0
-Within ps end = (k : ℕ) → k < length ps → slice_index (ends_in ps) k ≤ end
+Within ps end = All (λ p. end_of p ≤ end) ps
 
--- no two rows share a byte: of two, if the second begins before the first one's end, it ends before the first begins
+-- two rows share no byte: if the second begins before the first one's end, it ends before the first begins. This holds of the second
+-- and the first too, then.
+abbrev pub Clear : Place → Place → Type 0
+Clear p q = q.start < end_of p → end_of q ≤ p.start
+
+-- no two rows share a byte
 abbrev pub Apart : List Place → Type 0
-Apart ps =
-    (j k : ℕ) → (j < length ps) × (k < length ps) × (j ≢ k) × (slice_index (starts_in ps) k < slice_index (ends_in ps) j)
-    → slice_index (ends_in ps) k ≤ slice_index (starts_in ps) j
+Apart ps = AllPairs Clear ps

@@ -3,10 +3,10 @@ ghost use Rattle.std.specs.Prelude.{◌≡◌};
 ghost use Rattle.table.specs.Faults.{wrong_memory_number};
 
 /// The refusal to make a store in lent memory. It alters nothing.
-#[derive(Clone, Copy)]
+#[derive(Clone, Copy, PartialEq, Eq, Debug)]
 pub enum WrongMemory {
     /// The memory has too few or too many rows or bytes.
-    OutOfRange,
+    OutOfRange = 2,
 }
 
 impl WrongMemory {
@@ -14,8 +14,6 @@ impl WrongMemory {
     pub fn number(self) -> u16
         ensures { result ≡ wrong_memory_number self }
     {
-        match self {
-            WrongMemory::OutOfRange => 2,
-        }
+        self as u16
     }
 }

@@ -9,10 +9,9 @@ pub fn copy_part(bytes: &[u8], start: u32, length: u32, offset: u32, into: &mut 
     requires { start + length ≤ extent bytes.now }
     ensures { Copied (drop offset (take length (drop start bytes.now))) into.old into.new result }
 {
-    if offset >= length {
-        return 0;
+    let file = &bytes[start as usize..start as usize + length as usize];
+    match file.get(offset as usize..) {
+        Some(rest) => copy_fitting(rest, into),
+        None => 0,
     }
-    let from = start as usize + offset as usize;
-    let end = start as usize + length as usize;
-    copy_fitting(&bytes[from..end], into)
 }

@@ -15,6 +15,7 @@ pub struct Place {
 }
 
 // A name of one unit, for rows that are not in use.
+#[tactic(auto, unfolding(object::specs::Legal::legal_name))]
 fn spare_name() -> Name {
     Name::from_units(&[0x5f]).unwrap()
 }

@@ -11,35 +11,11 @@ use crate::place::Place;
 fn guessed(places: &[Place], number: u32) -> Option<usize>
     ensures { IfSome result (λ i. StandsAt places.now number i) }
 {
-    if places.len() == 0 {
-        return None;
-    }
-    let first = places[0].number;
-    if number < first {
-        return None;
-    }
-    let i = (number - first) as usize;
-    if i < places.len() && places[i].number == number {
+    let i = number.checked_sub(places.first()?.number)? as usize;
+    if places.get(i)?.number == number {
         return Some(i);
     }
     None
-}
-
-fn rank_by_halves(places: &[Place], number: u32) -> usize
-    requires { Rising (numbers_in places.now) }
-    ensures { Ranked places.now number result }
-{
-    let mut low = 0;
-    let mut high = places.len();
-    while low < high {
-        let mid = low + (high - low) / 2;
-        if places[mid].number > number {
-            high = mid;
-        } else {
-            low = mid + 1;
-        }
-    }
-    low
 }
 
 /// How many rows have a number of at most `number`: by a guess, or else by halving.
@@ -49,7 +25,7 @@ pub fn rank(places: &[Place], number: u32) -> usize
 {
     match guessed(places, number) {
         Some(i) => i + 1,
-        None => rank_by_halves(places, number),
+        None => places.partition_point(|place| place.number <= number),
     }
 }
 
@@ -58,21 +34,17 @@ pub fn find(places: &[Place], number: u32) -> Option<usize>
     requires { Rising (numbers_in places.now) }
     ensures { MatchOption result (Missing places.now number) (λ i. StandsAt places.now number i) }
 {
-    let past = rank(places, number);
-    if past > 0 && places[past - 1].number == number {
-        return Some(past - 1);
+    match guessed(places, number) {
+        Some(i) => Some(i),
+        None => places
+            .binary_search_by_key(&number, |place| place.number)
+            .ok(),
     }
-    None
 }
 
 /// Whether the number is the parent of some row's file.
 pub fn is_parent_of_any(places: &[Place], number: u32) -> bool
     ensures { (bytes : List ℕ) → result ≡ has_children number (files_in bytes places.now) }
 {
-    for place in places {
-        if place.file.parent == number {
-            return true;
-        }
-    }
-    false
+    places.iter().any(|place| place.file.parent == number)
 }

@@ -1,8 +1,15 @@
-use Rattle.std.proofs.Common.{arith}
-use Rattle.packed.proofs.Corrected.{corrected_more}
+use Rattle.std.proofs.Common.{get_or, set, ap, ◌∙◌, arith}
+use Rattle.std.proofs.lemmas.List.{get_or_default}
+use Rattle.std.proofs.lemmas.List.Edits.{map_over_more}
+use Rattle.table.specs.declared.place.Place.{Place}
+use Rattle.packed.specs.Gaps.{row_after}
 use Rattle.packed.proofs.changes.correct_starts.Goals as goal
 
-pub loop-k-preserved : goal.loop-k-preserved
-loop-k-preserved c =
-    corrected_more c.args.gap c.args.places.now c.loop-k.places c.loop-k.k c.moved_start.result c.index-places-k-in-loop-k.result c.index-places-k.result
-    (omega arith) (omega arith) c.loop-k.invariant c.moved_start.ensures
+pub loop-place-preserved : goal.loop-place-preserved
+loop-place-preserved c =
+    let ys = c.loop-place.places in
+    let k = c.loop-place.place-index in
+    let x : Place = get_or ys k c.place-item.result in
+    ap (λ z. set ys k (record { number = x.number; file = x.file; start = z })) c.start_after-place.ensures
+    ∙ map_over_more (row_after c.args.gap) _ ys k x c.loop-place-test.true c.loop-place.invariant
+    (get_or_default ys k c.place-item.result x (omega (arith, c.loop-place.auto.places)))
