@@ -1,72 +1,80 @@
--- Two ascending lists of files, walked by the next number above another.
-use Rattle.std.proofs.Common.{◌≡◌, ℕ, ◌<◌, ◌≤◌, Bool, true, false, cond, ltb, List, [], ◌∷◌, Some, None, Option, unwrap_or, sym, refl, ap, ◌∙◌, ⊎_elim, arith}
-use Rattle.std.proofs.lemmas.Bool.{cases_lt, lt-ltb, le-ltb, eq-eqb, ne_eqb}
-use Rattle.byte_parts.proofs.Cutting.{none_some}
-use Rattle.store.specs.Contents.{File, Entry, lookup, next_above}
+-- Two ascending lists of files that have as many files, each of which is found in the other.
+use Rattle.std.proofs.Common.{◌≡◌, ℕ, ◌<◌, ◌≤◌, Bool, true, false, List, [], ◌∷◌, length, Some, Decides, sym, refl, ap, ◌∙◌, subst, ⊎_elim, arith}
+use Rattle.std.specs.Bool.{MatchBool}
+use Rattle.std.specs.List.{AllByRecursion, AllWithin, HoldsAt}
+use Rattle.std.proofs.lemmas.Bool.{cases_eq, cases_order}
+use Rattle.std.proofs.lemmas.List.Elements.{All-from_all_within, recursion_from_All}
+use Rattle.byte_parts.proofs.Cutting.{none_some, some_same}
+use Rattle.store.specs.Contents.{File, Entry, lookup}
 use Rattle.store.specs.Sound.{Ascending}
+use Rattle.store.specs.Walks.{numbers}
+use Rattle.store.proofs.Lookups.{lookup_here, lookup_past, lookup_low, found_above}
 
--- the files above a number
-abbrev pub above : ℕ → List Entry → List Entry
-above n [] = []
-above n (e ∷ es) = cond (ltb n e.number) (e ∷ es) (above n es)
+-- what one list finds, the other finds
+abbrev Finds : List Entry → List Entry → Type 0
+Finds xs ys = (n : ℕ) (f : File) → lookup n xs ≡ Some f → lookup n ys ≡ Some f
 
-none_step : (b : Bool) (x : Entry) (xs ys : List Entry) (o : Option ℕ) → None ≡ cond b (Some x.number) o → (None ≡ o → ys ≡ []) → cond b (x ∷ xs) ys ≡ []
-none_step true x xs ys o e h = absurd (none_some e)
-none_step false x xs ys o e h = h e
-
-pub none_above : (n : ℕ) (xs : List Entry) → None ≡ next_above n xs → above n xs ≡ []
-none_above n [] e = refl
-none_above n (x ∷ xs) e = none_step (ltb n x.number) x xs (above n xs) (next_above n xs) e (none_above n xs)
-
-pub all_above : (m lo : ℕ) (xs : List Entry) → m ≤ lo → Ascending lo xs → above m xs ≡ xs
-all_above m lo [] h r = refl
-all_above m lo (y ∷ ys) h r = let a = r.0 in ap (λ t. cond t (y ∷ ys) (above m ys)) (lt-ltb m y.number (omega arith))
-
--- the files above n begin with the one that has the next number
-pub record Head (lo n m : ℕ) (xs : List Entry) : Type 0 where
-  pub more : n < m
-  pub over : lo < m
-  pub file : File
-  pub found : lookup m xs ≡ Some file
-  pub begins : above n xs ≡ record { number = m; file = file } ∷ above m xs
-
-pub some_above : (lo n m : ℕ) (xs : List Entry) → Ascending lo xs → Some m ≡ next_above n xs → Head lo n m xs
-some_above lo n m [] r e = absurd (none_some (sym e))
-some_above lo n m (x ∷ xs) r e =
-    let up = r.0 in
+-- the numbers of a list are those that it finds
+walked : (P : ℕ → Type 0) (xs : List Entry) → AllByRecursion P (numbers xs) → (n : ℕ) (f : File) → lookup n xs ≡ Some f → P n
+walked P [] a n f e = absurd (none_some e)
+walked P (x ∷ xs) a n f e =
     ⊎_elim
-    (λ (h : n < x.number).
-    let b = lt-ltb n x.number h in
-    let same : m ≡ x.number = ap (λ o. unwrap_or o 0) (e ∙ ap (λ t. cond t (Some x.number) (next_above n xs)) b) in
-    let rest : above m (x ∷ xs) ≡ xs = ap (λ t. cond t (x ∷ xs) (above m xs)) (le-ltb m x.number (omega arith)) ∙ all_above m x.number xs (omega arith) r.1 in
-    record {
-      more = omega arith;
-      over = omega arith;
-      file = x.file;
-      found = ap (λ t. cond t (Some x.file) (lookup m xs)) (eq-eqb x.number m (sym same));
-      begins = ap (λ t. cond t (x ∷ xs) (above n xs)) b ∙ ap (λ k. record { number = k; file = x.file } ∷ xs) (sym same) ∙ ap (λ z. record { number = m; file = x.file } ∷ z) (sym rest);
-    })
-    (λ (h : x.number ≤ n).
-    let b = le-ltb n x.number h in
-    let i = some_above x.number n m xs r.1 (e ∙ ap (λ t. cond t (Some x.number) (next_above n xs)) b) in
-    let o = i.over in
-    record {
-      more = i.more;
-      over = omega arith;
-      file = i.file;
-      found = ap (λ t. cond t (Some x.file) (lookup m xs)) (ne_eqb x.number m (λ z. omega arith)) ∙ i.found;
-      begins = ap (λ t. cond t (x ∷ xs) (above n xs)) b ∙ i.begins ∙ ap (λ z. record { number = m; file = i.file } ∷ z) (sym (ap (λ t. cond t (x ∷ xs) (above m xs)) (le-ltb m x.number (omega arith))));
-    })
-    (cases_lt n x.number)
+    (λ (q : x.number ≡ n). subst P q a.0)
+    (λ (q : x.number ≡ n → ⊥). walked P xs a.1 n f (sym (lookup_past x xs n q) ∙ e))
+    (cases_eq x.number n)
 
--- a step over a file that both have: what is left to compare is above it
-pub step : (n x y : ℕ) (ss ts : List Entry) → Ascending 0 ss → Ascending 0 ts → Some x ≡ next_above n ss → Some y ≡ next_above n ts → x ≡ y → lookup x ss ≡ lookup x ts
-    → (above n ss ≡ above n ts → ss ≡ ts) → above x ss ≡ above x ts → ss ≡ ts
-step n x y ss ts ra rb ea eb e f inv h =
-    let p = some_above 0 n x ss ra ea in
-    let q = some_above 0 n x ts rb (ap Some e ∙ eb) in
-    let same : p.file ≡ q.file = ap (λ o. unwrap_or o p.file) (sym p.found ∙ f ∙ q.found) in
-    inv (p.begins ∙ ap (λ z. record { number = x; file = z } ∷ above x ss) same ∙ ap (λ z. record { number = x; file = q.file } ∷ z) h ∙ sym q.begins)
+-- what the first of one list finds, in the rest of the other
+behind : (lo : ℕ) (x : Entry) (xs ys : List Entry) → Ascending lo xs → Finds xs (x ∷ ys) → x.number ≤ lo → Finds xs ys
+behind lo x xs ys a h low n f e =
+    let up = found_above lo n f xs a e in
+    sym (lookup_past x ys n (λ (q : x.number ≡ n). omega arith)) ∙ h n f e
 
-pub starts : (ss ts : List Entry) → Ascending 0 ss → Ascending 0 ts → above 0 ss ≡ above 0 ts → ss ≡ ts
-starts ss ts ra rb h = sym (all_above 0 0 ss (omega arith) ra) ∙ h ∙ all_above 0 0 ts (omega arith) rb
+not_first : (x y : Entry) (xs ys : List Entry) → Finds (x ∷ xs) (y ∷ ys) → Ascending y.number ys → x.number < y.number → ⊥
+not_first x y xs ys h b l = none_some (sym (lookup_low x.number x.number (y ∷ ys) (l, b) (omega arith)) ∙ h x.number x.file (lookup_here x xs x.number refl))
+
+tails : (x y : Entry) (xs ys : List Entry) → Ascending x.number xs → Finds (x ∷ xs) (y ∷ ys) → x.number ≡ y.number → Finds xs ys
+tails x y xs ys a h q =
+    behind x.number y xs ys a
+    (λ n f e. h n f (let up = found_above x.number n f xs a e in lookup_past x xs n (λ (s : x.number ≡ n). omega arith) ∙ e))
+    (omega arith)
+
+no_more : (xs ys : List Entry) (lo low : ℕ) → Ascending lo xs → Ascending low ys → Finds xs ys → length xs ≤ length ys
+no_more [] ys lo low a b h = omega arith
+no_more (x ∷ xs) [] lo low a b h = absurd (none_some (h x.number x.file (lookup_here x xs x.number refl)))
+no_more (x ∷ xs) (y ∷ ys) lo low a b h =
+    ⊎_elim
+    (λ (q : x.number ≡ y.number). let l = no_more xs ys x.number y.number a.1 b.1 (tails x y xs ys a.1 h q) in omega arith)
+    (⊎_elim
+    (λ (l : x.number < y.number). absurd (not_first x y xs ys h b.1 l))
+    (λ (l : y.number < x.number). let m = no_more (x ∷ xs) ys y.number y.number (l, a.1) b.1 (behind y.number y (x ∷ xs) ys (l, a.1) h (omega arith)) in omega arith))
+    (cases_order x.number y.number)
+
+same : (xs ys : List Entry) (lo low : ℕ) → Ascending lo xs → Ascending low ys → Finds xs ys → length xs ≡ length ys → xs ≡ ys
+same [] [] lo low a b h e = refl
+same [] (y ∷ ys) lo low a b h e = absurd (omega arith)
+same (x ∷ xs) [] lo low a b h e = absurd (omega arith)
+same (x ∷ xs) (y ∷ ys) lo low a b h e =
+    ⊎_elim
+    (λ (q : x.number ≡ y.number).
+    let f : x.file ≡ y.file = some_same (sym (h x.number x.file (lookup_here x xs x.number refl)) ∙ lookup_here y ys x.number (sym q)) in
+    let rest = same xs ys x.number y.number a.1 b.1 (tails x y xs ys a.1 h q) (omega arith) in
+    (λ i. record { number = q i; file = f i } ∷ rest i))
+    (⊎_elim
+    (λ (l : x.number < y.number). absurd (not_first x y xs ys h b.1 l))
+    (λ (l : y.number < x.number).
+    let m = no_more (x ∷ xs) ys y.number y.number (l, a.1) b.1 (behind y.number y (x ∷ xs) ys (l, a.1) h (omega arith)) in
+    absurd (omega arith)))
+    (cases_order x.number y.number)
+
+-- a walk over the numbers of one list, which asks of each whether the other finds the same
+pub walk_decides : (xs ys : List Entry) → Ascending 0 xs → Ascending 0 ys → length xs ≡ length ys → (left : List ℕ) → left ≡ numbers xs → (r : Bool)
+    → MatchBool r (AllWithin (λ n. lookup n xs ≡ lookup n ys) left 0 (length left)) ((k : ℕ) × (k < length left) × HoldsAt (λ n. lookup n xs ≡ lookup n ys → ⊥) left k)
+    → Decides r (xs ≡ ys)
+walk_decides xs ys a b count left is true all = (
+  (λ _. same xs ys 0 0 a b (λ n f e. sym (walked (λ m. lookup m xs ≡ lookup m ys) xs each n f e) ∙ e) count),
+  (λ _. refl),
+)
+  where
+    each : AllByRecursion (λ m. lookup m xs ≡ lookup m ys) (numbers xs)
+    each = subst (AllByRecursion (λ m. lookup m xs ≡ lookup m ys)) is (recursion_from_All (λ m. lookup m xs ≡ lookup m ys) left (All-from_all_within (λ m. lookup m xs ≡ lookup m ys) left all))
+walk_decides xs ys a b count left is false (k, inside, other) = ((λ e. absurd (cc)), (λ e. absurd (other 0 (ap (lookup _) e))))

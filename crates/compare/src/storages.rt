@@ -1,48 +1,33 @@
 //! Whether two pairs of storages are equal, and so reply alike.
 ghost use Rattle.std.specs.Prelude.{◌≡◌, Decides};
 ghost use Rattle.protocol.specs.Alike.{Alike};
-ghost use Rattle.protocol.specs.Pairs.{storages_of};
+ghost use Rattle.protocol.specs.Storages.{SoundStorages};
 
 use crate::contents::same_contents;
+use looking::pair::StoragePair;
 use store::read::ReadStore;
 use store::write::WriteStore;
 
-// Whether locks and contents are equal.
-fn equal_pairs<W: WriteStore, R: ReadStore, V: WriteStore, Q: ReadStore>(
-    first_a: &W,
-    second_a: &R,
-    first_b: &V,
-    second_b: &Q,
+// Apart from the public call, whose law stands in a proof file, so that a planted fault shows in the code.
+fn are_equal<W: WriteStore, R: ReadStore, V: WriteStore, Q: ReadStore>(
+    a: &StoragePair<'_, W, R>,
+    b: &StoragePair<'_, V, Q>,
 ) -> bool
-    ensures { Decides result (storages_of W.ReadStore W.WriteStore.own R.ReadStore first_a.now second_a.now ≡ storages_of V.ReadStore V.WriteStore.own Q.ReadStore first_b.now second_b.now) }
+    ensures equal { Decides result (a.now ≡ b.now) }
+    ensures sound { SoundStorages a.now × SoundStorages b.now }
 {
-    first_a.is_locked() == first_b.is_locked()
-        && same_contents(first_a, first_b)
-        && same_contents(second_a, second_b)
-}
-
-// Equal storages reply alike, and no others do.
-fn alike_pairs<W: WriteStore, R: ReadStore, V: WriteStore, Q: ReadStore>(
-    first_a: &W,
-    second_a: &R,
-    first_b: &V,
-    second_b: &Q,
-) -> bool
-    ensures equal { Decides result (storages_of W.ReadStore W.WriteStore.own R.ReadStore first_a.now second_a.now ≡ storages_of V.ReadStore V.WriteStore.own Q.ReadStore first_b.now second_b.now) }
-    ensures alike { Decides result (Alike (storages_of W.ReadStore W.WriteStore.own R.ReadStore first_a.now second_a.now) (storages_of V.ReadStore V.WriteStore.own Q.ReadStore first_b.now second_b.now)) }
-{
-    equal_pairs(first_a, second_a, first_b, second_b)
+    a.first().is_locked() == b.first().is_locked()
+        && same_contents(a.first(), b.first())
+        && same_contents(a.second(), b.second())
 }
 
 /// Whether two pairs of stores are equal storages, which is exactly if new responders over them reply alike to every list of calls.
 pub fn same_storages<W: WriteStore, R: ReadStore, V: WriteStore, Q: ReadStore>(
-    first_a: &W,
-    second_a: &R,
-    first_b: &V,
-    second_b: &Q,
+    a: &StoragePair<'_, W, R>,
+    b: &StoragePair<'_, V, Q>,
 ) -> bool
-    ensures equal { Decides result (storages_of W.ReadStore W.WriteStore.own R.ReadStore first_a.now second_a.now ≡ storages_of V.ReadStore V.WriteStore.own Q.ReadStore first_b.now second_b.now) }
-    ensures alike { Decides result (Alike (storages_of W.ReadStore W.WriteStore.own R.ReadStore first_a.now second_a.now) (storages_of V.ReadStore V.WriteStore.own Q.ReadStore first_b.now second_b.now)) }
+    ensures equal { Decides result (a.now ≡ b.now) }
+    ensures alike { Decides result (Alike a.now b.now) }
 {
-    alike_pairs(first_a, second_a, first_b, second_b)
+    are_equal(a, b)
 }

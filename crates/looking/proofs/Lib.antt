@@ -1,5 +1,3 @@
-pub mod Bodies
-pub mod Files
 pub mod Listings
 pub mod Looks
-pub mod Walks
+pub mod Pairs

@@ -1,4 +1,4 @@
-pub mod Files
 pub mod Listings
 pub mod Looks
 pub mod Outcomes
+pub mod Places

@@ -1,5 +1,5 @@
 -- What an operation that looks writes, and what it hands on.
-use Rattle.std.specs.Prelude.{ℕ, false, cond, not, List, [], length, Ok, Err, Result, ◌==◌, nat_le}
+use Rattle.std.specs.Prelude.{ℕ, ◌+◌, false, cond, not, List, length, Ok, Err, Result, ◌==◌, nat_le}
 use Rattle.byte_parts.specs.Parts.{over}
 use Rattle.store.specs.Checks.{provided}
 use Rattle.store.specs.Infos as infos
@@ -8,6 +8,7 @@ use Rattle.wire.specs.declared.command.Command.{Command}
 use Rattle.wire.specs.declared.fault.DatasetFault.{DatasetFault}
 use Rattle.datasets.specs.declared.info.ObjectInfo.{ObjectInfo}
 use Rattle.datasets.specs.declared.info.StorageInfo.{StorageInfo}
+use Rattle.datasets.specs.declared.info.StorageKind.{StorageKind}
 use Rattle.datasets.specs.declared.info.StorageKind.TheVariants.{Programs, Handbook}
 use Rattle.object.specs.Formats.{format_number, is_folder}
 use Rattle.protocol.specs.declared.fault.OperationFault.{OperationFault}
@@ -16,7 +17,7 @@ use Rattle.protocol.specs.Checks.{present}
 use Rattle.protocol.specs.Faults.{of_dataset}
 use Rattle.protocol.specs.Looking.{Shown, storage_info_of, parent_handle}
 use Rattle.protocol.specs.Machine.{data_of}
-use Rattle.protocol.specs.Storages.{Storages, first_storage, is_storage, storage_of, object_at}
+use Rattle.protocol.specs.Storages.{Storages, first_storage, is_storage, second_base, storage_of, object_at}
 use Rattle.looking.specs.Outcomes.{ShownLength}
 
 -- the data container at the front of the buffer, if it holds it; else a refusal, and the buffer as it was
@@ -31,11 +32,6 @@ shown_in c (Ok x) out =
 abbrev pub shown_by : List ℕ → Result ℕ DatasetFault → Result ShownLength OperationFault
 shown_by parameters (Ok n) = Ok (record { parameters = parameters; data_length = n })
 shown_by parameters (Err f) = Err (of_dataset f)
-
--- a record that was found, shown as its bytes
-abbrev pub shows_with : {A : Type 0} → (A → List ℕ) → Result A OperationFault → Result Shown OperationFault
-shows_with bytes (Ok x) = Ok (record { parameters = []; payload = bytes x })
-shows_with bytes (Err f) = Err f
 
 -- what is told of a storage
 abbrev pub storage_told : Storages → ℕ → Result StorageInfo OperationFault
@@ -53,6 +49,11 @@ body_told p h =
     present (object_at p h) InvalidHandle λ f.
     provided (not (is_folder f.format)) InvalidHandle
     (Ok (infos.info_of f))
+
+-- a parent on a storage as a handle, or 0
+abbrev pub parent_on : StorageKind → ℕ → ℕ
+parent_on Programs parent = parent
+parent_on Handbook parent = cond (parent == 0) 0 (second_base + parent)
 
 -- what an ObjectInfo says of that file
 abbrev pub object_told : ℕ → FileInfo → ObjectInfo

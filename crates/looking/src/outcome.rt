@@ -15,6 +15,21 @@ pub struct Done {
     pub data_length: usize,
 }
 
+impl From<Parameters> for Done {
+    ghost use Rattle.wire.specs.Parameters.{listed};
+    ghost use Rattle.looking.specs.Outcomes.{done_told};
+
+    ghost from_gives = { λ parameters r. done_told r ≡ record { parameters = listed parameters; data_length = 0 } };
+
+    /// An operation without data.
+    fn from(parameters: Parameters) -> Done {
+        Done {
+            parameters,
+            data_length: 0,
+        }
+    }
+}
+
 /// What a writer's answer comes to.
 pub(crate) fn shown(
     parameters: Parameters,

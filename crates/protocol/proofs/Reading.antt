@@ -3,7 +3,8 @@ use Rattle.std.proofs.Common.{◌≡◌, ℕ, suc, ◌+◌, ◌*◌, ◌/◌, �
 use Rattle.std.proofs.lemmas.Bool.{and_parts, leb-true, ltb-true, le-leb, ne_eqb, cond-true, cond-false, both_ways}
 use Rattle.byte_parts.specs.Numbers.{le, value}
 use Rattle.byte_parts.proofs.LittleEndian.{value_le}
-use Rattle.object.specs.Legal.{legal_unit, all, legal_name}
+use Rattle.std.specs.List.{list_all}
+use Rattle.object.specs.Legal.{legal_unit, legal_name}
 use Rattle.object.specs.Names.{units_of, named, unit_bytes}
 use Rattle.object.specs.Protections.{protection_number, protection_of}
 use Rattle.object.specs.declared.name.Name.{Name}
@@ -40,16 +41,16 @@ unit_whole u h = omega arith
 step_unit : (u v : ℕ) (o : Option Read) → v ≡ u → (u ≡ 0 → ⊥) → cond (eqb v 0) None (with_unit v o) ≡ with_unit u o
 step_unit u v o e n = ap (λ w. cond (eqb w 0) None (with_unit w o)) e ∙ cond-false (eqb u 0) _ _ (ne_eqb u 0 n)
 
-units_back : (us rest : List ℕ) → all legal_unit us ≡ true → closed_units (length us) (unit_bytes us ++ (0 ∷ 0 ∷ rest)) ≡ Some (record { units = us; rest = rest })
+units_back : (us rest : List ℕ) → list_all legal_unit us ≡ true → closed_units (length us) (unit_bytes us ++ (0 ∷ 0 ∷ rest)) ≡ Some (record { units = us; rest = rest })
 units_back [] rest e = refl
 units_back (u ∷ us) rest e =
-    let h = and_parts (legal_unit u) (all legal_unit us) e in
+    let h = and_parts (legal_unit u) (list_all legal_unit us) e in
     let l : (0 < u) × (u < 65536) = unit_limits u h.0 in
     step_unit u (u % 256 + 256 * ((u / 256) % 256)) (closed_units (length us) (unit_bytes us ++ (0 ∷ 0 ∷ rest))) (unit_whole u l.1) (λ z. omega (arith, l.0))
     ∙ ap (λ (o : Option Read). with_unit u o) (units_back us rest h.1)
 
 -- a string of legal units is read back
-string_back : (us rest : List ℕ) → all legal_unit us ≡ true → 1 ≤ length us → string_in (string us ++ rest) ≡ Some (record { units = us; rest = rest })
+string_back : (us rest : List ℕ) → list_all legal_unit us ≡ true → 1 ≤ length us → string_in (string us ++ rest) ≡ Some (record { units = us; rest = rest })
 string_back [] rest e l = absurd (omega arith)
 string_back (u ∷ us) rest e l =
     ap (λ (xs : List ℕ). closed_units (suc (length us)) xs) (append_assoc (unit_bytes (u ∷ us)) (0 ∷ 0 ∷ []) rest) ∙ units_back (u ∷ us) rest e

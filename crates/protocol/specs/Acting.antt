@@ -5,6 +5,7 @@ use Rattle.object.specs.declared.protection.Protection.{Protection}
 use Rattle.object.specs.declared.protection.Protection.TheVariants.{Unprotected, ReadOnly}
 use Rattle.store.specs.Checks.{provided}
 use Rattle.store.specs.Contents.{File, Contents}
+use Rattle.store.specs.declared.info.NewFile.{NewFile}
 use Rattle.store.specs.Sound.{is_parent, last_number, max_length}
 use Rattle.store.specs.Changes.{added, removed, has_room, past_last}
 use Rattle.wire.specs.declared.command.Command.{Command}
@@ -89,6 +90,10 @@ given_next s t = record { id = s.id; expected = s.expected; next = suc s.next; t
 
 abbrev pub at_rest : OpenSession → OpenSession
 at_rest s = record { id = s.id; expected = s.expected; next = s.next; transfer = Idle }
+
+-- the announced file, but for its number and bytes
+abbrev pub new_file : Announcement → NewFile
+new_file a = record { format = a.format; protection = a.protection; parent = a.parent; name = a.name }
 
 -- the announced file, once its bytes are there
 abbrev pub file_of : Announcement → List ℕ → File

@@ -1,5 +1,6 @@
 -- The responder: its calls, and the steps that decide each answer.
-use Rattle.std.specs.Prelude.{ℕ, suc, Bool, true, cond, not, ◌&&◌, ◌||◌, List, [], ◌∷◌, length, drop, Some, None, Ok, Err, Option, Result, ◌==◌, nat_le}
+use Rattle.std.specs.List.{list_all}
+use Rattle.std.specs.Prelude.{ℕ, suc, Bool, cond, not, ◌||◌, List, [], ◌∷◌, length, drop, Some, None, Ok, Err, Option, Result, ◌==◌, nat_le}
 use Rattle.store.specs.Contents.{Contents}
 use Rattle.wire.specs.declared.command.Command.{Command}
 use Rattle.wire.specs.declared.operation.Operation.{Operation}
@@ -104,8 +105,7 @@ gate (Open s) c =
     (cond (c.transaction == s.expected) (known_open (operation_of c.code) (moved s)) (stops InvalidTransaction (Open s)))
 
 abbrev pub all_zero : List ℕ → Bool
-all_zero [] = true
-all_zero (n ∷ ns) = n == 0 && all_zero ns
+all_zero = list_all (λ n. n == 0)
 
 -- a parameter beyond the operation's count is not 0
 abbrev pub has_surplus : Operation → Command → Bool

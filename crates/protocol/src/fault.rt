@@ -1,12 +1,14 @@
 //! Why an operation is refused, each with its number on the wire.
 ghost use Rattle.std.specs.Prelude.{◌≡◌};
-ghost use Rattle.protocol.specs.Faults.{operation_fault_number, of_store, of_dataset};
+ghost use Rattle.wire.specs.Parameters.{listed};
+ghost use Rattle.protocol.specs.Faults.{operation_fault_number, parameters_of, of_store, of_dataset};
 
 use store::fault::StoreFault;
 use wire::fault::DatasetFault;
+use wire::response::Parameters;
 
 /// Why an operation is refused.
-#[derive(Clone, Copy)]
+#[derive(Clone, Copy, Debug, PartialEq, Eq)]
 pub enum OperationFault {
     /// The data container is longer than the buffer.
     GeneralError,
@@ -35,6 +37,7 @@ pub enum OperationFault {
 }
 
 impl OperationFault {
+    // Not discriminants: one refusal carries an id, so the enum cannot be cast.
     /// The fault's number on the wire.
     pub fn number(self) -> u16
         ensures { result ≡ operation_fault_number self }
@@ -61,6 +64,16 @@ impl OperationFault {
             OperationFault::TransactionCancelled => 0x201f,
             OperationFault::InvalidDataset => 0xa806,
             OperationFault::ObjectTooLarge => 0xa809,
+        }
+    }
+
+    /// The parameters of a refusal.
+    pub fn parameters(self) -> Parameters
+        ensures { listed result ≡ parameters_of self }
+    {
+        match self {
+            OperationFault::SessionAlreadyOpen(id) => Parameters::one(id),
+            _ => Parameters::none(),
         }
     }
 }

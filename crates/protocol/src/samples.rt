@@ -3,11 +3,9 @@ ghost use Rattle.protocol.specs.Samples.{Exchanged, WrittenOut, EveryOperation, 
 
 /// The sample calls get the sample replies, the sample bytes are what they are written out as, each operation has its task, and the
 /// sample storages are sound.
-pub fn samples_hold() -> u8
+pub fn samples_hold()
     ensures exchanged { Exchanged }
     ensures written { WrittenOut }
     ensures tasks { EveryOperation }
     ensures sound { SamplesSound }
-{
-    0
-}
+{}

@@ -1,7 +1,11 @@
 //! What a responder keeps of a session.
+ghost use Rattle.std.specs.Prelude.{◌≡◌};
+ghost use Rattle.protocol.specs.Acting.{new_file};
+
 use object::format::Format;
 use object::name::Name;
 use object::protection::Protection;
+use store::info::NewFile;
 
 /// A file that SendObjectInfo has announced. `parent` is a folder's number on the first store, or 0 at the root.
 #[derive(Clone, Copy)]
@@ -14,7 +18,22 @@ pub struct Announcement {
     pub size: u32,
 }
 
+impl Announcement {
+    /// The file that is announced, but for its number and its bytes.
+    pub fn file(&self) -> NewFile
+        ensures { result ≡ new_file self.now }
+    {
+        NewFile {
+            format: self.format,
+            protection: self.protection,
+            parent: self.parent,
+            name: self.name,
+        }
+    }
+}
+
 /// What a session waits for.
+// Not an Option: a further state of a transfer can join these two.
 #[derive(Clone, Copy)]
 pub enum Transfer {
     Idle,
@@ -30,6 +49,8 @@ pub struct OpenSession {
     pub transfer: Transfer,
 }
 
+/// Whether a session is open.
+// Not an Option: the responder matches these names together with the operation and the transaction.
 #[derive(Clone, Copy)]
 pub enum Session {
     Closed,

@@ -1,5 +1,3 @@
-pub mod Zeros
-pub mod Gates
 pub mod Acts
-pub mod Performing
 pub mod Laws
+pub mod Gates

@@ -1,10 +1,9 @@
 -- What an operation that acts answers, and what it leaves.
-use Rattle.std.specs.Prelude.{◌≡◌, ℕ, not, ◌&&◌, ◌||◌, List, Ok, Err, Result, ◌==◌, nat_le, nat_lt}
+use Rattle.std.specs.Prelude.{◌≡◌, ℕ, not, ◌&&◌, ◌||◌, List, Ok, Err, Result, ◌==◌, nat_le, nat_lt, cond, [], ◌∷◌}
 use Rattle.object.specs.Formats.{format_of, is_folder}
 use Rattle.store.specs.Changes.{has_room}
 use Rattle.store.specs.Checks.{provided}
 use Rattle.store.specs.Sound.{is_parent, last_number, max_length}
-use Rattle.store.specs.declared.info.NewFile.{NewFile}
 use Rattle.object.specs.declared.format.Format.{Format}
 use Rattle.wire.specs.Parameters.{listed}
 use Rattle.datasets.specs.declared.info.ObjectInfo.{ObjectInfo}
@@ -14,15 +13,15 @@ use Rattle.protocol.specs.declared.fault.OperationFault.{OperationFault}
 use Rattle.protocol.specs.declared.fault.OperationFault.TheVariants.{InvalidStorage, InvalidHandle, InvalidFormat, StoreFull, ObjectProtected, StoreReadOnly, FormatNotSupported, InvalidParent, InvalidDataset, ObjectTooLarge}
 use Rattle.protocol.specs.declared.session.Announcement.{Announcement}
 use Rattle.protocol.specs.declared.session.OpenSession.{OpenSession}
-use Rattle.protocol.specs.declared.session.Session.{Session}
-use Rattle.protocol.specs.declared.session.Session.TheVariants.{Closed, Open}
-use Rattle.protocol.specs.Acting.{Outcome, is_unprotected, dataset_in, parent_number, at_rest}
+use Rattle.protocol.specs.Acting.{Outcome, is_unprotected, dataset_in, parent_number, parent_told}
 use Rattle.protocol.specs.Checks.{present, and_then}
 use Rattle.protocol.specs.Commands.{parameter}
 use Rattle.protocol.specs.Faults.{ok, operation_fault_number, parameters_of, of_dataset}
 use Rattle.protocol.specs.Machine.{State, with_first}
-use Rattle.protocol.specs.Storages.{Storages, second_storage, second_base, is_storage, object_at}
-use Rattle.looking.specs.Outcomes.{ShownLength}
+use Rattle.protocol.specs.Storages.{Storages, first_storage, second_storage, second_base, is_storage, object_at}
+use Rattle.looking.specs.Places.{storage_with}
+use Rattle.datasets.specs.declared.info.StorageKind.{StorageKind}
+use Rattle.datasets.specs.declared.info.StorageKind.TheVariants.{Programs}
 
 -- the code and the parameters of a result
 abbrev pub code_told : Result Parameters OperationFault → ℕ
@@ -39,16 +38,6 @@ pub record Acted (p : Storages) (o : Outcome) (r : Result Parameters OperationFa
   pub parameters : parameters_told r ≡ o.parameters
   pub state : b ≡ record { storages = with_first p o.first; session = o.session }
 
--- an operation without data
-abbrev pub silent : Result Parameters OperationFault → Result ShownLength OperationFault
-silent (Ok ps) = Ok (record { parameters = listed ps; data_length = 0 })
-silent (Err f) = Err f
-
--- the session with no announcement
-abbrev pub rested : Session → Session
-rested Closed = Closed
-rested (Open s) = Open (at_rest s)
-
 -- an object that may be deleted, as far as the store is not asked
 abbrev pub deletable : Storages → ℕ → ℕ → Result (Unit {0}) OperationFault
 deletable p h format =
@@ -57,10 +46,6 @@ deletable p h format =
     provided (nat_lt h second_base) StoreReadOnly
     (provided (is_unprotected f.protection) ObjectProtected
     (Ok tt)))
-
--- the announced file, but for its number and bytes
-abbrev pub new_file : Announcement → NewFile
-new_file a = record { format = a.format; protection = a.protection; parent = a.parent; name = a.name }
 
 -- the announcement of a file of this format
 abbrev pub announced_as : Storages → OpenSession → ℕ → ObjectInfo → Format → Result Announcement OperationFault
@@ -77,6 +62,14 @@ announced_as p s parent i format =
       name = i.name;
       size = i.size;
     })))))
+
+-- the storage that a parameter of SendObjectInfo means, in which 0 means the first
+abbrev pub storage_meant : ℕ → Result StorageKind OperationFault
+storage_meant n = cond (n == 0) (Ok Programs) (storage_with n)
+
+-- what an accepted SendObjectInfo tells
+abbrev pub info_told : OpenSession → Command → List ℕ
+info_told s c = first_storage ∷ parent_told (parameter 2 c) ∷ s.next ∷ []
 
 -- the announcement that SendObjectInfo makes
 abbrev pub announcement_told : Storages → OpenSession → Command → List ℕ → Result Announcement OperationFault

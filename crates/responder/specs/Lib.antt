@@ -4,3 +4,4 @@ pub mod Sessions
 pub mod States
 pub mod Acts
 pub mod Laws
+pub mod Serving

@@ -33,21 +33,8 @@ abbrev pub told_of : ℕ → Result ShownLength OperationFault → Told
 told_of transaction (Ok d) = record { code = ok; transaction = transaction; parameters = d.parameters; data_length = d.data_length }
 told_of transaction (Err f) = record { code = operation_fault_number f; transaction = transaction; parameters = parameters_of f; data_length = 0 }
 
--- the reply, the 32 bytes and the state are as the session machine has them
-pub record Replied (a : machine.Answer) (r : Reply) (was later : List ℕ) (b : machine.State) : Type 0 where
-  pub reply : told r ≡ told_by a.reply
-  pub response : later ≡ over (machine.response_of a.reply) was
-  pub state : b ≡ a.state
-
 -- the result, the buffer and the state are as the session machine has them
 pub record Performed (a : machine.Answer) (c : Command) (r : Result Done OperationFault) (was later : List ℕ) (b : machine.State) : Type 0 where
   pub reply : told_of c.transaction (result_told r) ≡ told_by a.reply
   pub buffer : later ≡ over a.reply.sent was
-  pub state : b ≡ a.state
-
--- the reply, the 32 bytes, the buffer and the state are as the session machine has them
-pub record Answered (a : machine.Answer) (r : Reply) (was later buffer_was buffer_later : List ℕ) (b : machine.State) : Type 0 where
-  pub reply : told r ≡ told_by a.reply
-  pub response : later ≡ over (machine.response_of a.reply) was
-  pub buffer : buffer_later ≡ over a.reply.sent buffer_was
   pub state : b ≡ a.state

@@ -1,8 +1,8 @@
 //! The responder: the code that serves the cable, over any two stores.
 #![tactic(auto)]
 
+mod checks;
 pub mod command;
-pub mod fault;
 pub mod reply;
 pub mod responder;
 pub mod session;

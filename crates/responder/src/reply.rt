@@ -5,11 +5,11 @@ ghost use Rattle.wire.specs.Containers.{response};
 ghost use Rattle.looking.specs.Outcomes.{result_told};
 ghost use Rattle.responder.specs.Replies.{told, told_of, tells};
 
-use crate::fault::parameters_of;
 use looking::outcome::Done;
 use protocol::fault::OperationFault;
-use wire::response::Parameters;
+use wire::container::Heading;
 use wire::response::write::write_response;
+use wire::response::{MAX_RESPONSE, Parameters};
 
 /// What a command was answered with. `data_length` counts the bytes of the data container at the front of the buffer, 0 if there
 /// is none.
@@ -37,7 +37,7 @@ fn reply_of(transaction: u32, res: Result<Done, OperationFault>) -> Reply
         Err(fault) => Reply {
             code: fault.number(),
             transaction,
-            parameters: parameters_of(fault),
+            parameters: fault.parameters(),
             data_length: 0,
         },
     }
@@ -45,7 +45,7 @@ fn reply_of(transaction: u32, res: Result<Done, OperationFault>) -> Reply
 
 /// The reply that a result is, with its response at the front of `response`.
 pub(crate) fn respond(
-    response: &mut [u8; 32],
+    response: &mut [u8; MAX_RESPONSE],
     transaction: u32,
     res: Result<Done, OperationFault>,
 ) -> Reply
@@ -53,6 +53,10 @@ pub(crate) fn respond(
     ensures response { response.new ≡ over (tells (told_of transaction (result_told res))) response.old }
 {
     let reply = reply_of(transaction, res);
-    write_response(response, reply.code, transaction, &reply.parameters);
+    let heading = Heading {
+        code: reply.code,
+        transaction,
+    };
+    write_response(response, heading, &reply.parameters);
     reply
 }

@@ -1,16 +1,16 @@
 //! The session's own steps, which come before any operation.
-ghost use Rattle.std.specs.Prelude.{◌≡◌, ◌≤◌, true, false, not, drop, ◌==◌};
+ghost use Rattle.std.specs.Prelude.{◌≡◌, ◌≤◌, true, drop, IfOk};
+ghost use Rattle.wire.specs.Operations.{operation_number};
 ghost use Rattle.protocol.specs.Machine.{gate, moved, for_closed, all_zero, has_surplus};
 ghost use Rattle.protocol.specs.declared.session.Session.TheVariants.{Closed, Open};
 ghost use Rattle.protocol.specs.declared.session.Transfer.TheVariants.{Idle};
 ghost use Rattle.protocol.specs.Acting.{given_next};
-ghost use Rattle.responder.specs.Acts.{rested};
-ghost use Rattle.responder.specs.Sessions.{expects_within, admission, session_at};
+ghost use Rattle.responder.specs.Sessions.{expects_within, admission, session_at, rested};
 
 use protocol::fault::OperationFault;
 use protocol::session::{OpenSession, Session, Transfer};
 use wire::command::Command;
-use wire::operation::{GET_DEVICE_INFO, OPEN_SESSION, Operation, operation_of};
+use wire::operation::{Operation, OperationCode, operation_of};
 
 /// The transaction after which 1 is expected.
 const LAST_TRANSACTION: u32 = 0xffff_fffe;
@@ -20,13 +20,6 @@ const LAST_TRANSACTION: u32 = 0xffff_fffe;
 pub struct CurrentSession {
     session: Session,
     ghost within: { expects_within session ≡ true },
-}
-
-/// An operation that the session lets follow.
-#[derive(Clone, Copy)]
-pub(crate) enum Admitted {
-    WhileClosed(Operation),
-    WhileOpen(Operation, OpenSession),
 }
 
 /// The session with the expected transaction moved on.
@@ -46,17 +39,14 @@ fn moved(session: OpenSession) -> OpenSession
     }
 }
 
-fn is_expected(session: OpenSession, transaction: u32) -> bool
-    ensures { result ≡ (transaction == session.expected) }
-{
-    transaction == session.expected
-}
-
 /// Whether a closed responder does this operation.
-fn is_for_closed(code: u16) -> bool
-    ensures { result ≡ for_closed code }
+fn is_for_closed(code: OperationCode) -> bool
+    ensures { result ≡ for_closed (operation_number code) }
 {
-    code == GET_DEVICE_INFO || code == OPEN_SESSION
+    matches!(
+        code,
+        OperationCode::GetDeviceInfo | OperationCode::OpenSession
+    )
 }
 
 impl CurrentSession {
@@ -68,38 +58,41 @@ impl CurrentSession {
         }
     }
 
-    /// The session's own steps: the session and the command together decide.
-    pub(crate) fn admit(&mut self, command: &Command) -> Result<Admitted, OperationFault>
+    /// The session's own steps: the session and the command together decide whether the operation may follow.
+    pub(crate) fn admit(&mut self, command: &Command) -> Result<Operation, OperationFault>
         ensures result { result ≡ admission (gate self.old.session command.now) }
         ensures after { self.new.session ≡ session_at (gate self.old.session command.now) }
+        ensures code { IfOk result (λ o. operation_number o.code ≡ command.now.code) }
     {
         match (
             self.session,
             operation_of(command.code),
             command.transaction,
         ) {
-            (Session::Open(open), _, _) if command.code == OPEN_SESSION => {
+            (Session::Open(open), _, _) if command.code == OperationCode::OpenSession.number() => {
                 Err(OperationFault::SessionAlreadyOpen(open.id))
             }
-            (Session::Open(open), _, given) if !is_expected(open, given) => {
+            (Session::Open(open), _, given) if given != open.expected => {
                 Err(OperationFault::InvalidTransaction)
             }
-            (Session::Open(open), None, _) => {
+            (Session::Open(open), known, _) => {
                 self.session = Session::Open(moved(open));
-                Err(OperationFault::OperationNotSupported)
-            }
-            (Session::Open(open), Some(operation), _) => {
-                let open = moved(open);
-                self.session = Session::Open(open);
-                Ok(Admitted::WhileOpen(operation, open))
+                known.ok_or(OperationFault::OperationNotSupported)
             }
             (Session::Closed, None, _) => Err(OperationFault::OperationNotSupported),
-            (Session::Closed, Some(_), _) if !is_for_closed(command.code) => {
+            (Session::Closed, Some(operation), _) if !is_for_closed(operation.code) => {
                 Err(OperationFault::SessionNotOpen)
             }
-            (Session::Closed, Some(operation), 0) => Ok(Admitted::WhileClosed(operation)),
+            (Session::Closed, Some(operation), 0) => Ok(operation),
             (Session::Closed, Some(_), _) => Err(OperationFault::InvalidTransaction),
         }
+    }
+
+    /// The session that is open, or that none is.
+    pub(crate) fn current(&self) -> Session
+        ensures { result ≡ self.now.session }
+    {
+        self.session
     }
 
     /// A session begins.
@@ -154,12 +147,10 @@ impl CurrentSession {
 fn is_zero_from(parameters: &[u32; 5], from: usize) -> bool
     ensures { result ≡ all_zero (drop from parameters.now) }
 {
-    for i in from..5 {
-        if parameters[i] != 0 {
-            return false;
-        }
-    }
-    true
+    parameters
+        .iter()
+        .skip(from)
+        .all(|parameter| *parameter == 0)
 }
 
 /// Whether a parameter beyond the operation's count is not 0.

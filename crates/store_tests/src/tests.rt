@@ -20,13 +20,11 @@ fn long_image(last: u8) -> [u8; 151] {
     image
 }
 
-/// Whether two images are accepted, and their stores hold the same.
+/// Whether two images, which must be accepted, hold the same.
 fn same(rt: &impl Abort, a: &[u8], b: &[u8]) -> bool {
-    let a = ImageStore::open(a);
-    let b = ImageStore::open(b);
-    assert!(rt; a.verdict.is_ok());
-    assert!(rt; b.verdict.is_ok());
-    same_contents(&a.store, &b.store)
+    let a = ImageStore::open(a).expect(rt, "the first is an image");
+    let b = ImageStore::open(b).expect(rt, "the second is an image");
+    same_contents(&a, &b)
 }
 
 #[test]

@@ -1,25 +1,15 @@
-use Rattle.std.proofs.Common.{sym, refl, ◌∙◌, arith}
-use Rattle.compare.proofs.Walks.{starts, none_above, step, some_above}
+use Rattle.std.proofs.Common.{◌≡◌, refl, rules}
+use Rattle.std.proofs.lemmas.Iterator.{cases_from_all}
+use Rattle.std.proofs.lemmas.Iterator.Consumers.{YieldsList-from_first}
+use Rattle.store.specs.Contents.{lookup}
+use Rattle.compare.proofs.Walks.{walk_decides}
 use Rattle.compare.proofs.files.same_files.Goals as goal
 
-pub loop-x-init : goal.loop-x-init
-loop-x-init g c = starts _ _ (g.A.ReadStore.sound c.args.a.now).ascending (g.B.ReadStore.sound c.args.b.now).ascending
-
-pub returns-in-None-None : goal.returns-in-None-None
-returns-in-None-None g c = (
-  (λ _. c.loop-x.invariant (none_above c.loop-x.n _ (sym c.in-None-None.is-0 ∙ c.next_above.ensures)
-      ∙ sym (none_above c.loop-x.n _ (sym c.in-None-None.is-1 ∙ c.next_above-in-loop-x.ensures)))),
-  (λ _. refl),
-)
-
-pub loop-x-smaller : goal.loop-x-smaller
-loop-x-smaller g c =
-    let h = some_above 0 c.loop-x.n c.in-Some-Some.x _ (g.A.ReadStore.sound c.args.a.now).ascending (sym c.in-Some-Some.is-0 ∙ c.next_above.ensures) in
-    let m = h.more in
-    omega arith
-
-pub loop-x-preserved : goal.loop-x-preserved
-loop-x-preserved g c =
-    step c.loop-x.n c.in-Some-Some.x c.in-Some-Some.y _ _ (g.A.ReadStore.sound c.args.a.now).ascending (g.B.ReadStore.sound c.args.b.now).ascending
-    (sym c.in-Some-Some.is-0 ∙ c.next_above.ensures) (sym c.in-Some-Some.is-1 ∙ c.next_above-in-loop-x.ensures)
-    c.if-x-y.false (c.same_file.ensures.0 c.if-not-same_file.false) c.loop-x.invariant
+pub returns-then-count : goal.returns-then-count
+returns-then-count g c =
+    let xs = (g.A.ReadStore.contents c.args.a.now).files in
+    let ys = (g.B.ReadStore.contents c.args.b.now).files in
+    walk_decides xs ys (g.A.ReadStore.sound c.args.a.now).ascending (g.B.ReadStore.sound c.args.b.now).ascending (search rules) c.numbers_of.result c.numbers_of.ensures c.all.result
+    (cases_from_all _ _ c.all.result (λ n. lookup n xs ≡ lookup n ys) (λ n. lookup n xs ≡ lookup n ys → ⊥) c.all.ensures.ran
+    (YieldsList-from_first (λ x. x) (λ l. l) c.numbers_of.result refl)
+    (λ x q k. search rules) (λ x q k. search rules))
