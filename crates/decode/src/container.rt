@@ -1,10 +1,12 @@
 //! Containers in words.
-use crate::dataset::dataset_said;
-use crate::names::{operation_name, response_name};
-use crate::numbers::numbers_said;
-use byte_parts::cut::{cut_u16, cut_u32};
-use std::alloc::{AllocError, Global};
+use crate::dataset::Dataset;
+use crate::names::Code;
+use crate::numbers::{Ids, Numbers};
+use byte_parts::cut::cut_number;
+use std::error::Error;
+use std::fmt;
 use wire::command::Command;
+use wire::container::ContainerKind;
 
 /// The fields of a head.
 #[derive(Clone, Copy)]
@@ -15,12 +17,40 @@ struct Head {
     transaction: u32,
 }
 
+/// One container.
+#[derive(Clone, Copy)]
+pub struct Container<'a> {
+    head: Head,
+    payload: &'a [u8],
+    bytes: &'a [u8],
+}
+
+/// Why bytes are no container.
+#[derive(Clone, Copy, Debug)]
+pub enum NoContainer {
+    NoHead { count: usize },
+    OtherLength { len: u32, count: usize },
+}
+
+impl fmt::Display for NoContainer {
+    fn fmt<W: fmt::Write>(&self, f: &mut fmt::Formatter<W>) -> fmt::Result {
+        match self {
+            NoContainer::NoHead { count } => write!(f, "{count} bytes are no head"),
+            NoContainer::OtherLength { len, count } => {
+                write!(f, "the length field says {len} and there are {count} bytes")
+            }
+        }
+    }
+}
+
+impl Error for NoContainer {}
+
 /// The head at the front, and what lies behind it.
 fn cut_head(bytes: &[u8]) -> Option<(Head, &[u8])> {
-    let (len, rest) = cut_u32(bytes)?;
-    let (kind, rest) = cut_u16(rest)?;
-    let (code, rest) = cut_u16(rest)?;
-    let (transaction, rest) = cut_u32(rest)?;
+    let (len, rest) = cut_number(bytes)?;
+    let (kind, rest) = cut_number(rest)?;
+    let (code, rest) = cut_number(rest)?;
+    let (transaction, rest) = cut_number(rest)?;
     let head = Head {
         len,
         kind,
@@ -30,77 +60,84 @@ fn cut_head(bytes: &[u8]) -> Option<(Head, &[u8])> {
     Some((head, rest))
 }
 
-/// A code by its name, or else by its number.
-fn code_said(heap: Global, name: Option<&'static str>, code: u16) -> Result<String, AllocError> {
-    match name {
-        Some(name) => String::from_str(heap, name),
-        None => format!(in heap; "{code:#06x}"),
+impl<'a> Container<'a> {
+    /// The container that bytes are.
+    pub fn read(bytes: &'a [u8]) -> Result<Container<'a>, NoContainer> {
+        let count = bytes.len();
+        let (head, payload) = cut_head(bytes).ok_or(NoContainer::NoHead { count })?;
+        if head.len as usize != count {
+            return Err(NoContainer::OtherLength {
+                len: head.len,
+                count,
+            });
+        }
+        Ok(Container {
+            head,
+            payload,
+            bytes,
+        })
+    }
+}
+
+impl fmt::Display for Container<'_> {
+    fn fmt<W: fmt::Write>(&self, f: &mut fmt::Formatter<W>) -> fmt::Result {
+        let code = self.head.code;
+        let transaction = self.head.transaction;
+        let payload = self.payload;
+        match ContainerKind::try_from(self.head.kind) {
+            Ok(ContainerKind::Command) => {
+                let operation = Code::of_operation(code);
+                let parameters = Parameters(payload);
+                write!(
+                    f,
+                    "command {operation}, transaction {transaction}{parameters}"
+                )?;
+                match Command::read(self.bytes) {
+                    Ok(_) => Ok(()),
+                    Err(_) => f.write_str(", error: a stray container"),
+                }
+            }
+            Ok(ContainerKind::Data) => {
+                let operation = Code::of_operation(code);
+                write!(f, "data {operation}, transaction {transaction}, ")?;
+                match Dataset::read(code, payload) {
+                    Ok(dataset) => write!(f, "{dataset}"),
+                    Err(error) => write!(f, "error: {error}"),
+                }
+            }
+            Ok(ContainerKind::Response) => {
+                let response = Code::of_response(code);
+                let parameters = Parameters(payload);
+                write!(
+                    f,
+                    "response {response}, transaction {transaction}{parameters}"
+                )
+            }
+            Err(kind) => write!(
+                f,
+                "type {}, code {code:#06x}, transaction {transaction}, {} bytes",
+                kind.number,
+                payload.len()
+            ),
+        }
     }
 }
 
 /// Parameters in their order, and how many bytes behind them make no whole one.
-fn parameters_said(heap: Global, payload: &[u8]) -> Result<String, AllocError> {
-    if payload.is_empty() {
-        return Ok(String::new(heap));
-    }
-    let numbers = numbers_said(heap, payload)?;
-    let odd = payload.len() % 4;
-    if odd == 0 {
-        format!(in heap; ", parameters{numbers}")
-    } else {
-        format!(in heap; ", parameters{numbers}, {odd} bytes over")
-    }
-}
+#[derive(Clone, Copy)]
+struct Parameters<'a>(&'a [u8]);
 
-/// Whether the responder takes the bytes for a command.
-fn verdict(bytes: &[u8]) -> &'static str {
-    match Command::read(bytes) {
-        Ok(_) => "",
-        Err(_) => ", error: a stray container",
-    }
-}
-
-fn body_said(heap: Global, head: Head, bytes: &[u8], payload: &[u8]) -> Result<String, AllocError> {
-    let code = head.code;
-    let transaction = head.transaction;
-    match head.kind {
-        1 => {
-            let name = code_said(heap, operation_name(code), code)?;
-            let parameters = parameters_said(heap, payload)?;
-            let verdict = verdict(bytes);
-            format!(in heap; "command {name}, transaction {transaction}{parameters}{verdict}")
+impl fmt::Display for Parameters<'_> {
+    fn fmt<W: fmt::Write>(&self, f: &mut fmt::Formatter<W>) -> fmt::Result {
+        if self.0.is_empty() {
+            return Ok(());
         }
-        2 => {
-            let name = code_said(heap, operation_name(code), code)?;
-            let dataset = dataset_said(heap, code, payload)?;
-            format!(in heap; "data {name}, transaction {transaction}, {dataset}")
+        let (whole, over) = self.0.as_chunks();
+        let numbers: Ids = Numbers(whole);
+        write!(f, ", parameters{numbers}")?;
+        if !over.is_empty() {
+            write!(f, ", {} bytes over", over.len())?;
         }
-        3 => {
-            let name = code_said(heap, response_name(code), code)?;
-            let parameters = parameters_said(heap, payload)?;
-            format!(in heap; "response {name}, transaction {transaction}{parameters}")
-        }
-        kind => {
-            let len = payload.len();
-            format!(in heap;
-                "type {kind}, code {code:#06x}, transaction {transaction}, {len} bytes"
-            )
-        }
-    }
-}
-
-/// What is said of the bytes of one container.
-pub fn container_said(heap: Global, bytes: &[u8]) -> Result<String, AllocError> {
-    let count = bytes.len();
-    match cut_head(bytes) {
-        Some((head, payload)) => {
-            let len = head.len;
-            if len as usize == count {
-                body_said(heap, head, bytes, payload)
-            } else {
-                format!(in heap; "error: the length field says {len} and there are {count} bytes")
-            }
-        }
-        None => format!(in heap; "error: {count} bytes are no head"),
+        Ok(())
     }
 }

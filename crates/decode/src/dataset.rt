@@ -1,13 +1,101 @@
 //! Datasets in words.
-use crate::fields::{device_in, storage_in};
-use crate::numbers::{codes_said, numbers_said};
-use crate::text::{quoted_bytes, quoted_units};
-use byte_parts::cut::cut_u32;
+use crate::fields::{DeviceInfo, StorageInfo};
+use crate::numbers::{Ids, Numbers};
+use crate::text::Quoted;
+use byte_parts::cut::cut_number;
 use datasets::info::ObjectInfo;
 use object::protection::Protection;
-use std::alloc::{AllocError, Global};
-use wire::operation;
+use std::error::Error;
+use std::fmt;
+use wire::operation::{OperationCode, operation_of};
 
+/// What a data container carries, by its operation.
+#[derive(Clone, Copy)]
+pub enum Dataset<'a> {
+    Device(DeviceInfo<'a>),
+    Storage(StorageInfo<'a>),
+    Object(ObjectInfo),
+    Array(Array<'a>),
+    Bytes(usize),
+}
+
+/// Handles or storage ids.
+#[derive(Clone, Copy)]
+pub struct Array<'a> {
+    count: u32,
+    what: &'static str,
+    ids: Ids<'a>,
+}
+
+/// What a payload is not.
+#[derive(Clone, Copy, Debug)]
+pub enum NoDataset {
+    Info(&'static str),
+    Array(&'static str),
+    ArrayOf { count: u32, what: &'static str },
+}
+
+impl fmt::Display for NoDataset {
+    fn fmt<W: fmt::Write>(&self, f: &mut fmt::Formatter<W>) -> fmt::Result {
+        match self {
+            NoDataset::Info(name) => write!(f, "no {name}"),
+            NoDataset::Array(what) => write!(f, "no array of {what}"),
+            NoDataset::ArrayOf { count, what } => write!(f, "no array of {count} {what}"),
+        }
+    }
+}
+
+impl Error for NoDataset {}
+
+impl<'a> Array<'a> {
+    fn read(what: &'static str, payload: &'a [u8]) -> Result<Array<'a>, NoDataset> {
+        let (count, rest) = cut_number::<u32>(payload).ok_or(NoDataset::Array(what))?;
+        let (ids, over) = rest.as_chunks();
+        if ids.len() == count as usize && over.is_empty() {
+            Ok(Array {
+                count,
+                what,
+                ids: Numbers(ids),
+            })
+        } else {
+            Err(NoDataset::ArrayOf { count, what })
+        }
+    }
+}
+
+impl fmt::Display for Array<'_> {
+    fn fmt<W: fmt::Write>(&self, f: &mut fmt::Formatter<W>) -> fmt::Result {
+        write!(f, "{} {}:{}", self.count, self.what, self.ids)
+    }
+}
+
+impl<'a> Dataset<'a> {
+    /// The dataset that a payload is.
+    pub fn read(code: u16, payload: &'a [u8]) -> Result<Dataset<'a>, NoDataset> {
+        let dataset = match operation_of(code).map(|operation| operation.code) {
+            Some(OperationCode::GetDeviceInfo) => {
+                let info = DeviceInfo::read(payload).ok_or(NoDataset::Info("DeviceInfo"))?;
+                Dataset::Device(info)
+            }
+            Some(OperationCode::GetStorageInfo) => {
+                let info = StorageInfo::read(payload).ok_or(NoDataset::Info("StorageInfo"))?;
+                Dataset::Storage(info)
+            }
+            Some(OperationCode::GetObjectInfo | OperationCode::SendObjectInfo) => {
+                let info = ObjectInfo::read(payload).map_err(|_| NoDataset::Info("ObjectInfo"))?;
+                Dataset::Object(info)
+            }
+            Some(OperationCode::GetStorageIds) => Dataset::Array(Array::read("storages", payload)?),
+            Some(OperationCode::GetObjectHandles) => Dataset::Array(Array::read(
+                "handles", payload,
+            )?),
+            _ => Dataset::Bytes(payload.len()),
+        };
+        Ok(dataset)
+    }
+}
+
+// A `Display` of `Protection` would stand in `object`, and programs say it in different words.
 fn protection_word(protection: Protection) -> &'static str {
     match protection {
         Protection::Unprotected => "unprotected",
@@ -15,76 +103,23 @@ fn protection_word(protection: Protection) -> &'static str {
     }
 }
 
-fn object_said(heap: Global, payload: &[u8]) -> Result<String, AllocError> {
-    let Ok(info) = ObjectInfo::read(payload) else {
-        return String::from_str(heap, "error: no ObjectInfo");
-    };
-    let storage = info.storage;
-    let format = info.format;
-    let protection = protection_word(info.protection);
-    let size = info.size;
-    let parent = info.parent;
-    let name = quoted_units(heap, info.name.units())?;
-    format!(in heap;
-        "ObjectInfo: storage {storage:#010x}, format {format:#06x}, {protection}, {size} bytes, parent {parent:#x}, name {name}"
-    )
-}
-
-fn storage_said(heap: Global, payload: &[u8]) -> Result<String, AllocError> {
-    let Some(fields) = storage_in(payload) else {
-        return String::from_str(heap, "error: no StorageInfo");
-    };
-    let kind = fields.kind;
-    let access = fields.access;
-    let capacity = fields.capacity;
-    let free_bytes = fields.free_bytes;
-    let free_objects = fields.free_objects;
-    let description = quoted_bytes(heap, fields.description)?;
-    format!(in heap;
-        "StorageInfo: {description}, type {kind}, access {access}, capacity {capacity}, free bytes {free_bytes}, free objects {free_objects}"
-    )
-}
-
-fn device_said(heap: Global, payload: &[u8]) -> Result<String, AllocError> {
-    let Some(fields) = device_in(payload) else {
-        return String::from_str(heap, "error: no DeviceInfo");
-    };
-    let version = fields.version;
-    let extension = fields.extension;
-    let operations = codes_said(heap, fields.operations)?;
-    let formats = codes_said(heap, fields.formats)?;
-    let manufacturer = quoted_bytes(heap, fields.manufacturer)?;
-    let model = quoted_bytes(heap, fields.model)?;
-    let device_version = quoted_bytes(heap, fields.device_version)?;
-    let serial_number = quoted_bytes(heap, fields.serial_number)?;
-    format!(in heap;
-        "DeviceInfo: version {version}, extension {extension}, operations{operations}, formats{formats}, {manufacturer} {model} {device_version} {serial_number}"
-    )
-}
-
-/// An array of handles or of storage ids.
-fn array_said(heap: Global, what: &str, payload: &[u8]) -> Result<String, AllocError> {
-    let Some((count, numbers)) = cut_u32(payload) else {
-        return format!(in heap; "error: no array of {what}");
-    };
-    if numbers.len() / 4 != count as usize || numbers.len() % 4 != 0 {
-        return format!(in heap; "error: no array of {count} {what}");
-    }
-    let said = numbers_said(heap, numbers)?;
-    format!(in heap; "{count} {what}:{said}")
-}
-
-/// What is said of the payload of a data container.
-pub fn dataset_said(heap: Global, code: u16, payload: &[u8]) -> Result<String, AllocError> {
-    match code {
-        operation::GET_DEVICE_INFO => device_said(heap, payload),
-        operation::GET_STORAGE_IDS => array_said(heap, "storages", payload),
-        operation::GET_STORAGE_INFO => storage_said(heap, payload),
-        operation::GET_OBJECT_HANDLES => array_said(heap, "handles", payload),
-        operation::GET_OBJECT_INFO | operation::SEND_OBJECT_INFO => object_said(heap, payload),
-        _ => {
-            let len = payload.len();
-            format!(in heap; "{len} bytes")
+impl fmt::Display for Dataset<'_> {
+    fn fmt<W: fmt::Write>(&self, f: &mut fmt::Formatter<W>) -> fmt::Result {
+        match self {
+            Dataset::Device(info) => write!(f, "{info}"),
+            Dataset::Storage(info) => write!(f, "{info}"),
+            Dataset::Array(array) => write!(f, "{array}"),
+            Dataset::Bytes(count) => write!(f, "{count} bytes"),
+            Dataset::Object(info) => write!(
+                f,
+                "ObjectInfo: storage {:#010x}, format {:#06x}, {}, {} bytes, parent {:#x}, name {}",
+                info.storage,
+                info.format,
+                protection_word(info.protection),
+                info.size,
+                info.parent,
+                Quoted(info.name.units())
+            ),
         }
     }
 }

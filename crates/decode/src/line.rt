@@ -1,30 +1,22 @@
 //! One line of a capture.
-use crate::container::container_said;
-use crate::hex::{Spoilt, bytes_in};
-use std::alloc::{AllocError, Global};
+use crate::container::Container;
+use crate::hex::{HexError, bytes_in};
+use std::io;
 
 /// What a line holds before its comment.
 fn without_comment(line: &str) -> &str {
-    match line.split_once('#') {
-        Some((front, _)) => front,
-        None => line,
-    }
+    line.split_once('#').map_or(line, |(digits, _)| digits)
 }
 
-/// What is said of a line, or nothing if it is empty but for a comment.
-pub fn said_of(heap: Global, line: &str) -> Result<Option<String>, AllocError> {
-    let digits = without_comment(line);
-    match bytes_in(heap, digits)? {
-        Ok(bytes) => {
-            if bytes.is_empty() {
-                Ok(None)
-            } else {
-                Ok(Some(container_said(heap, bytes.as_slice())?))
-            }
-        }
-        Err(Spoilt::NoDigit(c)) => Ok(Some(format!(in heap;
-            "error: {c:?} is no hexadecimal digit"
-        )?)),
-        Err(Spoilt::HalfByte) => Ok(Some(format!(in heap; "error: half a byte at the end")?)),
+/// Prints what a line holds, behind its number, or nothing if it is empty but for a comment.
+pub fn print_line(rt: &HostRuntime, number: usize, line: &str) -> io::Result<()> {
+    match bytes_in(rt.alloc(), without_comment(line)) {
+        Ok(bytes) if bytes.is_empty() => Ok(()),
+        Ok(bytes) => match Container::read(bytes.as_slice()) {
+            Ok(container) => println!(rt; "{number}: {container}"),
+            Err(error) => println!(rt; "{number}: error: {error}"),
+        },
+        Err(HexError::OutOfMemory(error)) => Err(error.into()),
+        Err(error) => println!(rt; "{number}: error: {error}"),
     }
 }

@@ -1,27 +1,80 @@
-//! The names of the codes.
-use wire::operation::*;
+//! Codes by their names.
+ghost use Rattle.std.specs.Prelude.{◌≡◌};
+ghost use Rattle.std.specs.Option.{option_map};
+ghost use Rattle.decode.specs.Names.{name_in, operation_name, response_names};
+ghost use Rattle.wire.specs.Operations.{operation_of};
 
-/// The name of an operation of the responder.
-pub fn operation_name(code: u16) -> Option<&'static str> {
+use std::fmt;
+use wire::operation::{OperationCode, operation_of};
+
+/// A code, and its name if it has one.
+#[derive(Clone, Copy)]
+pub struct Code {
+    pub number: u16,
+    pub name: Option<&'static str>,
+}
+
+impl Code {
+    /// The code of an operation.
+    pub fn of_operation(number: u16) -> Code
+        ensures number { result.number ≡ number }
+        ensures name { option_map (λ s. s.now) result.name ≡ option_map (λ o. operation_name o.code) (operation_of number) }
+    {
+        Code {
+            number,
+            name: operation_of(number).map(|operation| operation_name(operation.code)),
+        }
+    }
+
+    /// The code of a response.
+    pub fn of_response(number: u16) -> Code
+        ensures number { result.number ≡ number }
+        ensures name { option_map (λ s. s.now) result.name ≡ name_in response_names number }
+    {
+        Code {
+            number,
+            name: response_name(number),
+        }
+    }
+}
+
+/// A code by its name, or else by its number.
+impl fmt::Display for Code {
+    // A name is written as it stands.
+    ghost output = { λ code. option_map (λ s. s.now) code.name };
+
+    fn fmt<W: fmt::Write>(&self, f: &mut fmt::Formatter<W>) -> fmt::Result {
+        match self.name {
+            Some(name) => f.write_str(name),
+            None => write!(f, "{:#06x}", self.number),
+        }
+    }
+}
+
+/// The name of an operation.
+fn operation_name(code: OperationCode) -> &'static str
+    ensures { result.now ≡ operation_name code }
+{
     match code {
-        GET_DEVICE_INFO => Some("GetDeviceInfo"),
-        OPEN_SESSION => Some("OpenSession"),
-        CLOSE_SESSION => Some("CloseSession"),
-        GET_STORAGE_IDS => Some("GetStorageIDs"),
-        GET_STORAGE_INFO => Some("GetStorageInfo"),
-        GET_OBJECT_HANDLES => Some("GetObjectHandles"),
-        GET_OBJECT_INFO => Some("GetObjectInfo"),
-        GET_OBJECT => Some("GetObject"),
-        DELETE_OBJECT => Some("DeleteObject"),
-        SEND_OBJECT_INFO => Some("SendObjectInfo"),
-        SEND_OBJECT => Some("SendObject"),
-        GET_PARTIAL_OBJECT => Some("GetPartialObject"),
-        _ => None,
+        OperationCode::GetDeviceInfo => "GetDeviceInfo",
+        OperationCode::OpenSession => "OpenSession",
+        OperationCode::CloseSession => "CloseSession",
+        OperationCode::GetStorageIds => "GetStorageIDs",
+        OperationCode::GetStorageInfo => "GetStorageInfo",
+        OperationCode::GetObjectHandles => "GetObjectHandles",
+        OperationCode::GetObjectInfo => "GetObjectInfo",
+        OperationCode::GetObject => "GetObject",
+        OperationCode::DeleteObject => "DeleteObject",
+        OperationCode::SendObjectInfo => "SendObjectInfo",
+        OperationCode::SendObject => "SendObject",
+        OperationCode::GetPartialObject => "GetPartialObject",
     }
 }
 
 /// The name of a response code.
-pub fn response_name(code: u16) -> Option<&'static str> {
+fn response_name(code: u16) -> Option<&'static str>
+    ensures { option_map (λ s. s.now) result ≡ name_in response_names code }
+{
     match code {
         0x2001 => Some("OK"),
         0x2002 => Some("General_Error"),

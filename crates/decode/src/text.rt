@@ -1,39 +1,54 @@
 //! The text of units, fit for a terminal.
-use byte_parts::cut::cut_u16;
-use std::alloc::{AllocError, Global};
+ghost use Rattle.std.specs.Prelude.{◌≡◌, Some};
+ghost use Rattle.byte_parts.specs.Numbers.{value};
+ghost use Rattle.decode.specs.Units.{unit_text};
 
-/// Adds one unit: half pairs and control characters are escaped.
-fn push_unit(heap: Global, text: &mut String, unit: u16) -> Result<(), AllocError> {
-    match char::from_u32(unit as u32) {
-        Some(c) => {
-            if !c.is_control() {
-                return text.push(c);
-            }
+use std::fmt;
+
+/// A unit of UTF-16.
+#[derive(Clone, Copy)]
+pub struct Unit(pub u16);
+
+impl From<u16> for Unit {
+    ghost from_gives = { λ n unit. unit.0 ≡ n };
+
+    fn from(unit: u16) -> Unit {
+        Unit(unit)
+    }
+}
+
+/// The lower byte stands first.
+impl From<[u8; 2]> for Unit {
+    ghost from_gives = { λ bytes unit. unit.0 ≡ value bytes };
+
+    fn from(bytes: [u8; 2]) -> Unit {
+        Unit(u16::from_le_bytes(bytes))
+    }
+}
+
+/// Half pairs and control characters are escaped.
+impl fmt::Display for Unit {
+    ghost output = { λ unit. Some (unit_text unit.0) };
+
+    fn fmt<W: fmt::Write>(&self, f: &mut fmt::Formatter<W>) -> fmt::Result {
+        match char::from_u32(u32::from(self.0)) {
+            Some(c) if !c.is_control() => f.write_char(c),
+            _ => write!(f, "\\u{{{:x}}}", self.0),
         }
-        None => {}
     }
-    let escape = format!(in heap; "\\u{{{unit:x}}}")?;
-    text.push_str(escape.as_str())
 }
 
-/// The text of the units that bytes hold, in quotes.
-pub fn quoted_bytes(heap: Global, bytes: &[u8]) -> Result<String, AllocError> {
-    let mut text = String::from_str(heap, "\"")?;
-    let mut rest = bytes;
-    while let Some((unit, behind)) = cut_u16(rest) {
-        push_unit(heap, &mut text, unit)?;
-        rest = behind;
-    }
-    text.push('"')?;
-    Ok(text)
-}
+/// Units as a text in quotes.
+#[derive(Clone, Copy)]
+pub struct Quoted<'a, U>(pub &'a [U]);
 
-/// The text of units, in quotes.
-pub fn quoted_units(heap: Global, units: &[u16]) -> Result<String, AllocError> {
-    let mut text = String::from_str(heap, "\"")?;
-    for unit in units {
-        push_unit(heap, &mut text, *unit)?;
+impl<U: Copy + Into<Unit>> fmt::Display for Quoted<'_, U> {
+    fn fmt<W: fmt::Write>(&self, f: &mut fmt::Formatter<W>) -> fmt::Result {
+        f.write_char('"')?;
+        for unit in self.0 {
+            let unit: Unit = (*unit).into();
+            write!(f, "{unit}")?;
+        }
+        f.write_char('"')
     }
-    text.push('"')?;
-    Ok(text)
 }

@@ -1,3 +1,4 @@
+mod Escapes
 mod Reading
-mod Above
 mod Refused
+mod Told

@@ -1,14 +1,13 @@
--- What cutting a sign off tells of the text and of the units behind it.
-use Rattle.std.proofs.Common.{◌≡◌, ℕ, ◌<◌, Bool, true, false, cond, ◌&&◌, List, [], ◌∷◌, ◌++◌, length, Some, None, sym, refl, ap, ◌∙◌, subst, arith}
+-- What cutting a sign off tells of the text.
+use Rattle.std.proofs.Common.{◌≡◌, ℕ, Bool, true, false, cond, ◌&&◌, List, [], ◌∷◌, ◌++◌, Some, None, sym, refl, ap, ◌∙◌}
 use lib.Utf8.{encode}
 use Rattle.std.proofs.lemmas.List.{append-nil, append_assoc}
-use Rattle.byte_parts.proofs.Cutting.{none_some, some_same}
 use Rattle.inspect.specs.declared.text.Sign.{Sign}
 use Rattle.inspect.specs.Signs.{is_high, is_low, pair_code, single, front_of, cut_sign}
 use Rattle.inspect.specs.Texts.{sign_text, units_text}
 
 -- the text of a sign and of the units behind it
-abbrev pub text_by : Sign × List ℕ → List ℕ
+abbrev text_by : Sign × List ℕ → List ℕ
 text_by p = sign_text p.0 ++ units_text p.1
 
 -- the front of three or more units, by whether the first two are a pair
@@ -19,19 +18,11 @@ front_text : (t : Bool) (u v : ℕ) (us : List ℕ) → cond t (encode (pair_cod
 front_text true u v us = refl
 front_text false u v us = refl
 
-front_less : (t : Bool) (u v : ℕ) (us : List ℕ) → length (front t u v us).1 < length (u ∷ v ∷ us)
-front_less true u v us = omega arith
-front_less false u v us = omega arith
-
 sign_text_cut : (us : List ℕ) (p : Sign × List ℕ) → cut_sign us ≡ Some p → units_text us ≡ text_by p
-sign_text_cut [] p e = absurd (none_some e)
-sign_text_cut (u ∷ []) p e = sym (append-nil (sign_text (single u))) ∙ ap text_by (some_same e)
-sign_text_cut (u ∷ v ∷ us) p e = front_text (is_high u && is_low v) u v us ∙ ap text_by (some_same e)
-
-pub sign_less : (us : List ℕ) (p : Sign × List ℕ) → cut_sign us ≡ Some p → length p.1 < length us
-sign_less [] p e = absurd (none_some e)
-sign_less (u ∷ []) p e = subst (λ q. length q.1 < length (u ∷ [])) (some_same e) (omega arith)
-sign_less (u ∷ v ∷ us) p e = subst (λ q. length q.1 < length (u ∷ v ∷ us)) (some_same e) (front_less (is_high u && is_low v) u v us)
+sign_text_cut [] p e = cc
+sign_text_cut (u ∷ []) p e = let same : (single u, []) ≡ p = cc in sym (append-nil (sign_text (single u))) ∙ ap text_by same
+sign_text_cut (u ∷ v ∷ us) p e =
+    let same : front (is_high u && is_low v) u v us ≡ p = cc in front_text (is_high u && is_low v) u v us ∙ ap text_by same
 
 -- one more sign is written
 pub sign_added : (old new all rest behind : List ℕ) (s : Sign) → new ≡ old ++ sign_text s → cut_sign rest ≡ Some (s, behind) → old ++ units_text rest ≡ all → new ++ units_text behind ≡ all

@@ -1,5 +1,5 @@
 -- What is listed of a store: each file once, in ascending number.
-use Rattle.std.specs.Prelude.{ℕ, cond, List, [], ◌∷◌, map, Some, None, Option, nat_lt}
+use Rattle.std.specs.Prelude.{ℕ, List, map}
 use Rattle.object.specs.declared.format.Format.{Format}
 use Rattle.object.specs.declared.protection.Protection.{Protection}
 use Rattle.store.specs.declared.info.FileInfo.{FileInfo}
@@ -26,13 +26,3 @@ entry_fields e = info_fields e.number (info_of e.file)
 -- the listing of these files
 abbrev pub listed : List Entry → List Fields
 listed es = map entry_fields es
-
--- the files whose numbers are above n
-abbrev pub above : ℕ → List Entry → List Entry
-above n [] = []
-above n (e ∷ es) = cond (nat_lt n e.number) (e ∷ above n es) (above n es)
-
--- the first row of a listing
-abbrev pub first_of : List Fields → Option Fields
-first_of [] = None
-first_of (f ∷ fs) = Some f

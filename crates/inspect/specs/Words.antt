@@ -1,5 +1,5 @@
 -- The words and lines that are printed of an image.
-use Rattle.std.specs.Prelude.{ℕ, cond, List, ◌++◌, length, codes, decimal, ◌==◌}
+use Rattle.std.specs.Prelude.{ℕ, cond, Option, None, Some, List, ◌++◌, length, codes, decimal, ◌==◌}
 use Rattle.object.specs.declared.format.Format.{Format}
 use Rattle.object.specs.declared.format.Format.TheVariants.{Undefined, Association, Text}
 use Rattle.object.specs.declared.protection.Protection.{Protection}
@@ -16,6 +16,11 @@ kind_word Text = codes "text"
 abbrev pub protection_word : Protection → List ℕ
 protection_word Unprotected = codes "none"
 protection_word ReadOnly = codes "read-only"
+
+-- a file's path, by its folder's path and its own name
+abbrev pub path_text : Option (List ℕ) → List ℕ → List ℕ
+path_text None name = name
+path_text (Some folder) name = folder ++ (codes "/" ++ name)
 
 abbrev pub totals_line : ℕ → ℕ → ℕ → ℕ → List ℕ
 totals_line count limit bytes capacity =

@@ -1,15 +1,21 @@
 //! The files of a store in ascending number, each with its path.
-ghost use Rattle.std.specs.Prelude.{◌≡◌, map, IfOk};
+ghost use Rattle.std.specs.Prelude.{◌≡◌, map, IfOk, string_bytes};
 ghost use Rattle.std.specs.Option.{option_map};
-ghost use Rattle.inspect.specs.Listed.{row_fields, info_fields, listed, above, first_of};
+ghost use Rattle.std.specs.Ordering.{nat_cmp};
+ghost use Rattle.std.specs.BTreeMap.{get};
+ghost use Rattle.object.specs.Names.{units_of};
+ghost use Rattle.inspect.specs.Listed.{row_fields, info_fields, listed};
+ghost use Rattle.inspect.specs.Texts.{units_text};
+ghost use Rattle.inspect.specs.Words.{path_text};
 
-use crate::text::push_name;
+use crate::text::Shown;
 use object::format::Format;
 use object::protection::Protection;
 use std::alloc::{AllocError, Global};
 use std::collections::BTreeMap;
 use store::info::FileInfo;
 use store::read::ReadStore;
+use store::walk::files_of;
 
 /// A file as it is listed.
 #[derive(Drop)]
@@ -25,14 +31,14 @@ pub struct Row {
 type Folders = BTreeMap<u32, String>;
 
 /// The path of a file: its folder's path, a slash and its name.
-fn path_of(heap: Global, folders: &Folders, info: &FileInfo) -> Result<String, AllocError> {
-    let mut path = String::new(heap);
-    if let Some(folder) = folders.get(&info.parent) {
-        path.push_str(folder.as_str())?;
-        path.push('/')?;
+fn path_of(heap: Global, folders: &Folders, info: &FileInfo) -> Result<String, AllocError>
+    ensures { IfOk result (λ path. string_bytes path ≡ path_text (option_map string_bytes (get nat_cmp folders.now info.now.parent)) (units_text (units_of info.now.name))) }
+{
+    let name = Shown(&info.name);
+    match folders.get(&info.parent) {
+        Some(folder) => format!(in heap; "{folder}/{name}"),
+        None => name.to_string(heap),
     }
-    push_name(heap, &mut path, &info.name)?;
-    Ok(path)
 }
 
 /// The row of a file. A folder's path is kept for the files in it.
@@ -57,37 +63,15 @@ fn row_of(
     })
 }
 
-/// The row of the first file whose number is above `last`, if there is one.
-fn next_row<S: ReadStore>(
-    heap: Global,
-    folders: &mut Folders,
-    store: &S,
-    last: u32,
-) -> Result<Option<Row>, AllocError>
-    ensures { IfOk result (λ row. option_map row_fields row ≡ first_of (listed (above last (S.contents store.now).files))) }
-{
-    let Some(number) = store.next_above(last) else {
-        return Ok(None);
-    };
-    let Some(info) = store.describe(number) else {
-        return Ok(None);
-    };
-    Ok(Some(row_of(heap, folders, number, &info)?))
-}
-
 /// A row for each file of a store. A folder stands before what it holds, since its number is smaller.
+#[tactic(auto, using(crate::proofs::Told::told_listed))]
 pub fn rows_of<S: ReadStore>(heap: Global, store: &S) -> Result<Vec<Row>, AllocError>
     ensures { IfOk result (λ rows. map row_fields rows.items ≡ listed (S.contents store.now).files) }
 {
     let mut rows = Vec::new(heap);
     let mut folders = BTreeMap::new(heap);
-    let mut last = 0;
-    for _listed in 0..store.count() {
-        let Some(row) = next_row(heap, &mut folders, store, last)? else {
-            break;
-        };
-        last = row.number;
-        rows.push(row)?;
+    for (number, info) in files_of(store) {
+        rows.push(row_of(heap, &mut folders, number, &info)?)?;
     }
     Ok(rows)
 }

@@ -2,7 +2,7 @@
 #![tactic(auto)]
 
 use crate::report::report_of;
-use crate::request::{Argument, Outcome, Request, USAGE, argument_of};
+use crate::request::{Argument, Kind, Outcome, Request, USAGE};
 use std::fs::File;
 use std::io::Read;
 use std::process::ExitCode;
@@ -34,59 +34,57 @@ fn inspect(rt: &HostRuntime, gap: &str, path: &str) -> io::Result<Outcome> {
         }
     };
     let report = report_of(rt.alloc(), image.as_slice())?;
-    let text = report.text.as_str();
-    print!(rt; "{gap}{path}\n{text}")?;
-    if report.is_refused {
-        Ok(Outcome::Refused)
-    } else {
-        Ok(Outcome::Listed)
-    }
+    print!(rt; "{gap}{path}\n{report}")?;
+    Ok(report.outcome())
 }
 
-/// Inspects every file among the arguments, and then answers whether one failed.
-fn inspect_all(rt: &HostRuntime, words: &[String], is_strict: bool) -> io::Result<bool> {
-    let mut has_failed = false;
+/// Inspects every file among the arguments. The program fails if one of them does.
+fn inspect_all(
+    rt: &HostRuntime,
+    arguments: &[Argument<'_>],
+    is_strict: bool,
+) -> io::Result<ExitCode> {
+    let mut code = ExitCode::SUCCESS;
     let mut gap = "";
-    for word in words {
-        if let Argument::File = argument_of(word.as_str()) {
-            let outcome = inspect(rt, gap, word.as_str())?;
-            has_failed = outcome.is_failure(is_strict) || has_failed;
-            if !matches!(outcome, Outcome::Unread) {
+    for argument in arguments {
+        if argument.kind == Kind::File {
+            let outcome = inspect(rt, gap, argument.word)?;
+            if outcome.is_failure(is_strict) {
+                code = ExitCode::FAILURE;
+            }
+            if outcome != Outcome::Unread {
                 gap = "\n";
             }
         }
     }
-    Ok(has_failed)
+    Ok(code)
 }
 
 /// Says what is wrong with the arguments.
-fn explain(rt: &HostRuntime, words: &[String]) -> io::Result<()> {
-    for word in words {
-        if let Argument::Unknown = argument_of(word.as_str()) {
-            eprintln!(rt; "inspect: unknown option {word}")?;
+fn explain(rt: &HostRuntime, arguments: &[Argument<'_>]) -> io::Result<()> {
+    for argument in arguments {
+        if argument.kind == Kind::Unknown {
+            eprintln!(rt; "inspect: unknown option {}", argument.word)?;
         }
     }
     rt.eprint(USAGE)
 }
 
-/// Does what the arguments ask for, and answers whether it failed.
-fn run(rt: &HostRuntime, words: &[String]) -> io::Result<bool> {
-    let request = Request::of(words);
-    if request.wants_help {
-        rt.print(USAGE)?;
-        return Ok(false);
-    }
-    if !request.is_right() {
-        explain(rt, words)?;
-        return Ok(true);
-    }
-    inspect_all(rt, words, request.is_strict)
-}
-
 fn main(rt: HostRuntime) -> io::Result<ExitCode> {
     let words: Vec<String> = env::args(&rt)?.skip(1).collect(rt.alloc())?;
-    if run(&rt, words.as_slice())? {
-        return Ok(ExitCode::FAILURE);
+    let arguments: Vec<Argument> = words
+        .iter()
+        .map(|word| Argument::from(word.as_str()))
+        .collect(rt.alloc())?;
+    match Request::of(arguments.as_slice()) {
+        Request::Usage => {
+            rt.print(USAGE)?;
+            Ok(ExitCode::SUCCESS)
+        }
+        Request::Correction => {
+            explain(&rt, arguments.as_slice())?;
+            Ok(ExitCode::FAILURE)
+        }
+        Request::Inspection { is_strict } => inspect_all(&rt, arguments.as_slice(), is_strict),
     }
-    Ok(ExitCode::SUCCESS)
 }

@@ -1,6 +1,6 @@
 //! What the arguments ask for, and when the program fails.
-ghost use Rattle.std.specs.Prelude.{◌≡◌, not, ◌&&◌};
-ghost use Rattle.inspect.specs.Requests.{with_argument, fails};
+ghost use Rattle.std.specs.Prelude.{◌≡◌, ◌↔◌, IsTrue};
+ghost use Rattle.inspect.specs.Requests.{Has, Asks, fails};
 
 /// What the program says of itself.
 pub const USAGE: &str = "usage: inspect [--strict] FILE..
@@ -24,91 +24,74 @@ The status is 0 if every file could be read, whether its image is accepted or re
 could not be read, or if the arguments are wrong. A file whose name begins with - is given as ./-name.
 ";
 
-/// What the arguments ask for.
-#[derive(Clone, Copy)]
-pub struct Request {
-    pub wants_help: bool,
-    pub is_strict: bool,
-    pub has_unknown: bool,
-    pub has_files: bool,
-}
-
-/// What one argument is.
-#[derive(Clone, Copy)]
-pub enum Argument {
+/// What an argument can be.
+#[derive(Clone, Copy, PartialEq, Eq)]
+pub enum Kind {
     Help,
     Strict,
     Unknown,
     File,
 }
 
-/// What an argument is: a known option, an unknown one, or a file.
-pub fn argument_of(word: &str) -> Argument {
-    if word == "--help" || word == "-h" {
-        Argument::Help
-    } else if word == "--strict" {
-        Argument::Strict
-    } else if word.starts_with('-') {
-        Argument::Unknown
-    } else {
-        Argument::File
+/// An argument, and what it is.
+#[derive(Clone, Copy)]
+pub struct Argument<'a> {
+    pub kind: Kind,
+    pub word: &'a str,
+}
+
+/// A known option, an unknown one, or a file.
+impl<'a> From<&'a str> for Argument<'a> {
+    ghost from_gives = { λ word argument. argument.word ≡ word };
+
+    fn from(word: &'a str) -> Argument<'a> {
+        let kind = match word {
+            "--help" | "-h" => Kind::Help,
+            "--strict" => Kind::Strict,
+            _ if word.starts_with('-') => Kind::Unknown,
+            _ => Kind::File,
+        };
+        Argument { kind, word }
     }
 }
 
+/// Whether there is an argument of this kind.
+fn has(arguments: &[Argument<'_>], kind: Kind) -> bool
+    ensures { IsTrue result ↔ Has kind arguments.now }
+{
+    arguments.iter().any(|argument| argument.kind == kind)
+}
+
+/// What the arguments ask for.
+#[derive(Clone, Copy)]
+pub enum Request {
+    /// What the program says of itself.
+    Usage,
+    /// What is wrong with the arguments.
+    Correction,
+    /// What the files among the arguments hold.
+    Inspection { is_strict: bool },
+}
+
 impl Request {
-    /// The request that asks for nothing.
-    pub fn nothing() -> Request {
-        Request {
-            wants_help: false,
-            is_strict: false,
-            has_unknown: false,
-            has_files: false,
-        }
-    }
-
-    /// The request with one more argument.
-    pub fn with(self, argument: Argument) -> Request
-        ensures { result ≡ with_argument self argument }
-    {
-        match argument {
-            Argument::Help => Request {
-                wants_help: true,
-                ..self
-            },
-            Argument::Strict => Request {
-                is_strict: true,
-                ..self
-            },
-            Argument::Unknown => Request {
-                has_unknown: true,
-                ..self
-            },
-            Argument::File => Request {
-                has_files: true,
-                ..self
-            },
-        }
-    }
-
     /// The request that all these arguments make.
-    pub fn of(words: &[String]) -> Request {
-        let mut request = Request::nothing();
-        for word in words {
-            request = request.with(argument_of(word.as_str()));
-        }
-        request
-    }
-
-    /// Whether there is something to inspect, and no option is unknown.
-    pub fn is_right(self) -> bool
-        ensures { result ≡ (self.has_files && not self.has_unknown) }
+    pub fn of(arguments: &[Argument<'_>]) -> Request
+        ensures { Asks arguments.now result }
     {
-        self.has_files && !self.has_unknown
+        if has(arguments, Kind::Help) {
+            Request::Usage
+        } else if has(arguments, Kind::Unknown) || !has(arguments, Kind::File) {
+            Request::Correction
+        } else {
+            Request::Inspection {
+                is_strict: has(arguments, Kind::Strict),
+            }
+        }
     }
 }
 
 /// What came of one file.
-#[derive(Clone, Copy)]
+#[derive(Clone, Copy, PartialEq, Eq)]
 pub enum Outcome {
     Listed,
     Refused,

@@ -6,9 +6,12 @@ use crate::listing::Row;
 use object::format::Format;
 use object::protection::Protection;
 use std::alloc::{AllocError, Global};
+use std::fmt;
+
+// A column's words are texts, and no types with `Display`, since its width asks for their lengths.
 
 /// The words for the kinds of files.
-fn kind(format: Format) -> &'static str
+fn kind_word(format: Format) -> &'static str
     ensures { result.now ≡ kind_word format }
 {
     match format {
@@ -29,16 +32,38 @@ fn protection_word(protection: Protection) -> &'static str
 
 /// A line of the table.
 #[derive(Drop)]
-struct Line<'a> {
+struct Line {
     number: String,
     kind: &'static str,
     size: String,
     protection: &'static str,
-    path: &'a str,
+    path: String,
+}
+
+impl Line {
+    fn heading(heap: Global) -> Result<Line, AllocError> {
+        Ok(Line {
+            number: String::from_str(heap, "number")?,
+            kind: "kind",
+            size: String::from_str(heap, "size")?,
+            protection: "protection",
+            path: String::from_str(heap, "path")?,
+        })
+    }
+
+    fn of(heap: Global, row: Row) -> Result<Line, AllocError> {
+        Ok(Line {
+            number: row.number.to_string(heap)?,
+            kind: kind_word(row.format),
+            size: row.length.to_string(heap)?,
+            protection: protection_word(row.protection),
+            path: row.path,
+        })
+    }
 }
 
 /// How wide each column but the last is.
-#[derive(Clone, Copy)]
+#[derive(Clone, Copy, Default)]
 struct Widths {
     number: usize,
     kind: usize,
@@ -48,7 +73,7 @@ struct Widths {
 
 impl Widths {
     /// Widths for these columns and one more line.
-    fn wider(self, line: &Line<'_>) -> Widths
+    fn wider(self, line: &Line) -> Widths
         ensures number_value { result.number ≡ max self.number (string_len line.now.number) }
         ensures kind_value { result.kind ≡ max self.kind (length line.now.kind.now) }
         ensures size_value { result.size ≡ max self.size (string_len line.now.size) }
@@ -63,67 +88,52 @@ impl Widths {
     }
 }
 
-fn heading(heap: Global) -> Result<Line<'static>, AllocError> {
-    Ok(Line {
-        number: String::from_str(heap, "number")?,
-        kind: "kind",
-        size: String::from_str(heap, "size")?,
-        protection: "protection",
-        path: "path",
-    })
-}
-
-fn line_of<'a>(heap: Global, row: &'a Row) -> Result<Line<'a>, AllocError> {
-    Ok(Line {
-        number: row.number.to_string(heap)?,
-        kind: kind(row.format),
-        size: row.length.to_string(heap)?,
-        protection: protection_word(row.protection),
-        path: row.path.as_str(),
-    })
-}
-
-fn push_line(
-    heap: Global,
-    table: &mut String,
-    widths: Widths,
-    line: &Line<'_>,
-) -> Result<(), AllocError> {
-    let a = widths.number;
-    let b = widths.kind;
-    let c = widths.size;
-    let d = widths.protection;
-    let number = line.number.as_str();
-    let kind = line.kind;
-    let size = line.size.as_str();
-    let protection = line.protection;
-    let path = line.path;
-    let text = format!(in heap;
-        "{number:>a$}  {kind:<b$}  {size:>c$}  {protection:<d$}  {path}\n"
-    )?;
-    table.push_str(text.as_str())
-}
-
 /// A heading and a line for each row, or nothing if there is no row.
-pub fn table_of(heap: Global, rows: &[Row]) -> Result<String, AllocError> {
-    let mut table = String::new(heap);
-    if rows.is_empty() {
-        return Ok(table);
+#[derive(Drop)]
+pub struct Table {
+    lines: Vec<Line>,
+}
+
+impl Table {
+    pub fn of(heap: Global, rows: Vec<Row>) -> Result<Table, AllocError> {
+        let mut lines = Vec::new(heap);
+        if !rows.is_empty() {
+            lines.push(Line::heading(heap)?)?;
+        }
+        for row in rows {
+            lines.push(Line::of(heap, row)?)?;
+        }
+        Ok(Table { lines })
     }
-    let heading = heading(heap)?;
-    let mut widths = Widths {
-        number: 0,
-        kind: 0,
-        size: 0,
-        protection: 0,
-    };
-    widths = widths.wider(&heading);
-    for row in rows {
-        widths = widths.wider(&line_of(heap, row)?);
+
+    fn widths(&self) -> Widths {
+        self.lines
+            .iter()
+            .fold(Widths::default(), |widths, line| widths.wider(line))
     }
-    push_line(heap, &mut table, widths, &heading)?;
-    for row in rows {
-        push_line(heap, &mut table, widths, &line_of(heap, row)?)?;
+}
+
+impl fmt::Display for Table {
+    fn fmt<W: fmt::Write>(&self, f: &mut fmt::Formatter<W>) -> fmt::Result {
+        let Widths {
+            number: a,
+            kind: b,
+            size: c,
+            protection: d,
+        } = self.widths();
+        for line in &self.lines {
+            let Line {
+                number,
+                kind,
+                size,
+                protection,
+                path,
+            } = line;
+            writeln!(
+                f,
+                "{number:>a$}  {kind:<b$}  {size:>c$}  {protection:<d$}  {path}"
+            )?;
+        }
+        Ok(())
     }
-    Ok(table)
 }

@@ -1,30 +1,54 @@
 //! The text of a name, fit for a terminal.
-ghost use Rattle.std.specs.Prelude.{◌≡◌, ◌++◌, IfOk, string_bytes, OnOk};
+ghost use Rattle.std.specs.Prelude.{◌≡◌, Some};
 ghost use Rattle.std.specs.Option.{option_map};
 ghost use Rattle.object.specs.Names.{units_of};
 ghost use Rattle.inspect.specs.Signs.{is_high, is_low, paired, single, cut_sign};
-ghost use Rattle.inspect.specs.Texts.{hex_digit, escape, sign_text, units_text};
+ghost use Rattle.inspect.specs.Texts.{sign_text, units_text};
 
 use object::name::Name;
-use std::alloc::{AllocError, Global};
+use std::fmt;
 
 /// What the front of a name stands for: a character, or a unit that a terminal is not sent.
 #[derive(Clone, Copy)]
-pub enum Sign {
+enum Sign {
     Plain(char),
     Escaped(u16),
+}
+
+/// A unit that is not half of a pair. Lone halves and control characters are escaped.
+impl From<u16> for Sign {
+    ghost from_gives = { λ unit sign. sign ≡ single unit };
+
+    fn from(unit: u16) -> Sign {
+        match char::from_u32(u32::from(unit)) {
+            Some(c) if !c.is_control() => Sign::Plain(c),
+            _ => Sign::Escaped(unit),
+        }
+    }
+}
+
+#[tactic(auto, using(crate::proofs::Escapes::escape_written))]
+impl fmt::Display for Sign {
+    ghost output = { λ sign. Some (sign_text sign) };
+
+    fn fmt<W: fmt::Write>(&self, f: &mut fmt::Formatter<W>) -> fmt::Result {
+        match *self {
+            Sign::Plain(c) => f.write_char(c),
+            Sign::Escaped(unit) => write!(f, "\\u{{{unit:04x}}}"),
+        }
+    }
 }
 
 fn is_high(unit: u16) -> bool
     ensures { result ≡ is_high unit }
 {
-    unit >= 0xd800 && unit < 0xdc00
+    matches!(unit, 0xd800..=0xdbff)
 }
 
 fn is_low(unit: u16) -> bool
     ensures { result ≡ is_low unit }
 {
-    unit >= 0xdc00 && unit < 0xe000
+    matches!(unit, 0xdc00..=0xdfff)
 }
 
 /// The character of a surrogate pair.
@@ -32,82 +56,40 @@ fn pair(high: u16, low: u16) -> Option<char>
     ensures { result ≡ paired high low }
 {
     if is_high(high) && is_low(low) {
-        let code = 0x10000 + (high as u32 - 0xd800) * 0x400 + (low as u32 - 0xdc00);
-        char::from_u32(code)
+        char::from_u32(0x10000 + (u32::from(high) - 0xd800) * 0x400 + (u32::from(low) - 0xdc00))
     } else {
         None
     }
 }
 
-/// A unit that is not half of a pair. Lone halves and control characters are escaped.
-fn lone(unit: u16) -> Sign
-    ensures { result ≡ single unit }
-{
-    match char::from_u32(unit as u32) {
-        Some(c) => {
-            if c.is_control() {
-                Sign::Escaped(unit)
-            } else {
-                Sign::Plain(c)
-            }
-        }
-        None => Sign::Escaped(unit),
-    }
-}
-
 /// The sign at the front and the units behind it.
+// `char::decode_utf16` would not show what lies behind a pair, and the contract promises it.
 fn cut_sign(units: &[u16]) -> Option<(Sign, &[u16])>
     ensures { option_map (λ p. (p.0, p.1.now)) result ≡ cut_sign units.now }
 {
     let (first, rest) = units.split_first()?;
     let Some((second, behind)) = rest.split_first() else {
-        return Some((lone(*first), rest));
+        return Some((Sign::from(*first), rest));
     };
     match pair(*first, *second) {
         Some(c) => Some((Sign::Plain(c), behind)),
-        None => Some((lone(*first), rest)),
+        None => Some((Sign::from(*first), rest)),
     }
 }
 
-fn hex_digit(number: u16) -> char
-    ensures { result ≡ hex_digit number }
-{
-    match char::from_digit(number as u32 % 16, 16) {
-        Some(c) => c,
-        None => '?',
-    }
-}
+/// A name in UTF-8, with lone halves of pairs and control characters as `\u{d800}`.
+#[derive(Clone, Copy)]
+pub struct Shown<'a>(pub &'a Name);
 
-fn escaped(heap: Global, unit: u16) -> Result<String, AllocError>
-    ensures { IfOk result (λ s. string_bytes s ≡ escape unit) }
-{
-    let a = hex_digit(unit / 4096);
-    let b = hex_digit(unit / 256);
-    let c = hex_digit(unit / 16);
-    let d = hex_digit(unit);
-    format!(in heap; "\\u{{{a}{b}{c}{d}}}")
-}
+impl fmt::Display for Shown<'_> {
+    ghost output = { λ shown. Some (units_text (units_of shown.0.now)) };
 
-fn push_sign(heap: Global, text: &mut String, sign: Sign) -> Result<(), AllocError>
-    ensures { OnOk result (string_bytes text.new ≡ string_bytes text.old ++ sign_text sign) }
-{
-    match sign {
-        Sign::Plain(c) => text.push(c),
-        Sign::Escaped(unit) => {
-            let escape = escaped(heap, unit)?;
-            text.push_str(escape.as_str())
+    fn fmt<W: fmt::Write>(&self, f: &mut fmt::Formatter<W>) -> fmt::Result {
+        let mut rest = self.0.units();
+        while let Some((sign, behind)) = cut_sign(rest) {
+            write!(f, "{sign}")?;
+            rest = behind;
         }
+        Ok(())
     }
-}
-
-/// Adds the text of a name: UTF-8, with lone halves of pairs and control characters as `\u{d800}`.
-pub fn push_name(heap: Global, text: &mut String, name: &Name) -> Result<(), AllocError>
-    ensures { OnOk result (string_bytes text.new ≡ string_bytes text.old ++ units_text (units_of name.now)) }
-{
-    let mut rest = name.units();
-    while let Some((sign, behind)) = cut_sign(rest) {
-        push_sign(heap, text, sign)?;
-        rest = behind;
-    }
-    Ok(())
 }
