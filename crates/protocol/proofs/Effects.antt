@@ -8,7 +8,6 @@ use Rattle.object.specs.declared.format.Format.{Format}
 use Rattle.object.specs.declared.protection.Protection.{Protection}
 use Rattle.object.specs.declared.protection.Protection.TheVariants.{Unprotected, ReadOnly}
 use Rattle.store.specs.declared.fault.StoreFault.{StoreFault}
-use Rattle.store.specs.declared.fault.StoreFault.TheVariants as stores
 use Rattle.store.specs.Checks.{provided}
 use Rattle.store.specs.Contents.{File, Contents, total, lookup}
 use Rattle.store.specs.Sound.{is_parent, folder_there, last_number, max_length}
@@ -76,32 +75,16 @@ abbrev pub Later : OperationFault → Type 0
 Later f = (operation_fault_number f ≡ 0x2004 → ⊥) × (operation_fault_number f ≡ 0x2006 → ⊥) × (operation_fault_number f ≡ 0x2015 → ⊥)
 
 pub store_plain : (f : StoreFault) → Plain (of_store f)
-store_plain stores.ReadOnly = refl
-store_plain stores.InvalidDataset = refl
-store_plain stores.NumberTaken = refl
-store_plain stores.InvalidParent = refl
-store_plain stores.Full = refl
-store_plain stores.Absent = refl
-store_plain stores.HasChildren = refl
+store_plain f = grind arith
 
 pub store_later : (f : StoreFault) → Later (of_store f)
-store_later stores.ReadOnly = ((λ e. omega arith), (λ e. omega arith), (λ e. omega arith))
-store_later stores.InvalidDataset = ((λ e. omega arith), (λ e. omega arith), (λ e. omega arith))
-store_later stores.NumberTaken = ((λ e. omega arith), (λ e. omega arith), (λ e. omega arith))
-store_later stores.InvalidParent = ((λ e. omega arith), (λ e. omega arith), (λ e. omega arith))
-store_later stores.Full = ((λ e. omega arith), (λ e. omega arith), (λ e. omega arith))
-store_later stores.Absent = ((λ e. omega arith), (λ e. omega arith), (λ e. omega arith))
-store_later stores.HasChildren = ((λ e. omega arith), (λ e. omega arith), (λ e. omega arith))
+store_later f = grind arith
 
 pub dataset_plain : (f : DatasetFault) → Plain (of_dataset f)
-dataset_plain datasets.IncompleteTransfer = refl
-dataset_plain datasets.InvalidDataset = refl
-dataset_plain datasets.BufferTooShort = refl
+dataset_plain f = grind arith
 
 pub dataset_later : (f : DatasetFault) → Later (of_dataset f)
-dataset_later datasets.IncompleteTransfer = ((λ e. omega arith), (λ e. omega arith), (λ e. omega arith))
-dataset_later datasets.InvalidDataset = ((λ e. omega arith), (λ e. omega arith), (λ e. omega arith))
-dataset_later datasets.BufferTooShort = ((λ e. omega arith), (λ e. omega arith), (λ e. omega arith))
+dataset_later f = grind arith
 
 -- what an accepted DeleteObject found and did
 pub record Deletes (p : Storages) (h : ℕ) (d : Contents) : Type 0 where

@@ -12,7 +12,7 @@ use Rattle.wire.specs.declared.command.Command.{Command}
 use Rattle.wire.specs.Containers.{numbers, container, number_at, is_container, response_type, response}
 use Rattle.wire.specs.Operations.{get_partial_object}
 use Rattle.protocol.specs.declared.fault.OperationFault.{OperationFault}
-use Rattle.protocol.specs.declared.fault.OperationFault.TheVariants.{GeneralError, SessionNotOpen, InvalidTransaction, OperationNotSupported, ParameterNotSupported, IncompleteTransfer, InvalidStorage, InvalidHandle, InvalidFormat, StoreFull, ObjectProtected, StoreReadOnly, AccessDenied, FormatNotSupported, NoObjectInfo, InvalidParent, InvalidParameter, SessionAlreadyOpen, TransactionCancelled, InvalidDataset, ObjectTooLarge}
+use Rattle.protocol.specs.declared.fault.OperationFault.TheVariants.{InvalidTransaction, OperationNotSupported, TransactionCancelled}
 use Rattle.protocol.specs.declared.session.OpenSession.{OpenSession}
 use Rattle.protocol.specs.declared.session.Session.{Session}
 use Rattle.protocol.specs.declared.session.Session.TheVariants.{Closed, Open}
@@ -110,27 +110,7 @@ same_reply r q f g e d =
 
 -- the numbers of refusals
 fault_fits : (f : OperationFault) → operation_fault_number f < 2 ^ 16
-fault_fits GeneralError = omega arith
-fault_fits SessionNotOpen = omega arith
-fault_fits InvalidTransaction = omega arith
-fault_fits OperationNotSupported = omega arith
-fault_fits ParameterNotSupported = omega arith
-fault_fits IncompleteTransfer = omega arith
-fault_fits InvalidStorage = omega arith
-fault_fits InvalidHandle = omega arith
-fault_fits InvalidFormat = omega arith
-fault_fits StoreFull = omega arith
-fault_fits ObjectProtected = omega arith
-fault_fits StoreReadOnly = omega arith
-fault_fits AccessDenied = omega arith
-fault_fits FormatNotSupported = omega arith
-fault_fits NoObjectInfo = omega arith
-fault_fits InvalidParent = omega arith
-fault_fits InvalidParameter = omega arith
-fault_fits (SessionAlreadyOpen id) = omega arith
-fault_fits TransactionCancelled = omega arith
-fault_fits InvalidDataset = omega arith
-fault_fits ObjectTooLarge = omega arith
+fault_fits f = grind arith
 
 -- parameters that fit
 abbrev Fit : List ℕ → Type 0

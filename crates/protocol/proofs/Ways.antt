@@ -4,13 +4,10 @@ use Rattle.std.proofs.lemmas.Bool.{eqb-false}
 use Rattle.store.specs.Contents.{Contents}
 use Rattle.store.specs.Faults.{store_fault_number}
 use Rattle.store.specs.declared.fault.StoreFault.{StoreFault}
-use Rattle.store.specs.declared.fault.StoreFault.TheVariants as of_stores
 use Rattle.wire.specs.Faults.{dataset_fault_number}
 use Rattle.wire.specs.declared.fault.DatasetFault.{DatasetFault}
-use Rattle.wire.specs.declared.fault.DatasetFault.TheVariants as of_datasets
 use Rattle.store.proofs.Checks.{EitherWay}
 use Rattle.protocol.specs.declared.fault.OperationFault.{OperationFault}
-use Rattle.protocol.specs.declared.fault.OperationFault.TheVariants.{GeneralError, SessionNotOpen, InvalidTransaction, OperationNotSupported, ParameterNotSupported, IncompleteTransfer, InvalidStorage, InvalidHandle, InvalidFormat, StoreFull, ObjectProtected, StoreReadOnly, AccessDenied, FormatNotSupported, NoObjectInfo, InvalidParent, InvalidParameter, SessionAlreadyOpen, TransactionCancelled, InvalidDataset, ObjectTooLarge}
 use Rattle.protocol.specs.declared.session.Session.{Session}
 use Rattle.protocol.specs.Checks.{present, and_then}
 use Rattle.protocol.specs.Faults.{ok, operation_fault_number, of_store, of_dataset, NumbersCarried}
@@ -43,27 +40,7 @@ settled_ways P first session (Err f) h = h
 
 -- no refusal has the number of success
 pub fault_not_ok : (f : OperationFault) → operation_fault_number f ≡ ok → ⊥
-fault_not_ok GeneralError e = omega arith
-fault_not_ok SessionNotOpen e = omega arith
-fault_not_ok InvalidTransaction e = omega arith
-fault_not_ok OperationNotSupported e = omega arith
-fault_not_ok ParameterNotSupported e = omega arith
-fault_not_ok IncompleteTransfer e = omega arith
-fault_not_ok InvalidStorage e = omega arith
-fault_not_ok InvalidHandle e = omega arith
-fault_not_ok InvalidFormat e = omega arith
-fault_not_ok StoreFull e = omega arith
-fault_not_ok ObjectProtected e = omega arith
-fault_not_ok StoreReadOnly e = omega arith
-fault_not_ok AccessDenied e = omega arith
-fault_not_ok FormatNotSupported e = omega arith
-fault_not_ok NoObjectInfo e = omega arith
-fault_not_ok InvalidParent e = omega arith
-fault_not_ok InvalidParameter e = omega arith
-fault_not_ok (SessionAlreadyOpen id) e = omega arith
-fault_not_ok TransactionCancelled e = omega arith
-fault_not_ok InvalidDataset e = omega arith
-fault_not_ok ObjectTooLarge e = omega arith
+fault_not_ok f e = grind arith
 
 -- a number is not two numbers
 pub apart : {A : Type 0} {n : ℕ} (k l : ℕ) → n ≡ k → n ≡ l → eqb k l ≡ false → A
@@ -73,15 +50,7 @@ pub numbers_carried : NumbersCarried
 numbers_carried = record { stores = by_store; datasets = by_dataset }
   where
     by_store : (f : StoreFault) → operation_fault_number (of_store f) ≡ store_fault_number f
-    by_store of_stores.ReadOnly = refl
-    by_store of_stores.InvalidDataset = refl
-    by_store of_stores.NumberTaken = refl
-    by_store of_stores.InvalidParent = refl
-    by_store of_stores.Full = refl
-    by_store of_stores.Absent = refl
-    by_store of_stores.HasChildren = refl
+    by_store f = grind arith
 
     by_dataset : (f : DatasetFault) → operation_fault_number (of_dataset f) ≡ dataset_fault_number f
-    by_dataset of_datasets.IncompleteTransfer = refl
-    by_dataset of_datasets.InvalidDataset = refl
-    by_dataset of_datasets.BufferTooShort = refl
+    by_dataset f = grind arith

@@ -1,5 +1,5 @@
 //! What is checked before an operation changes anything.
-ghost use Rattle.std.specs.Prelude.{◌≡◌, ◌≤◌, length, OnOk};
+ghost use Rattle.std.specs.Prelude.{◌≡◌, ◌≤◌, OnOk};
 ghost use Rattle.protocol.specs.Acting.{dataset_in, parent_number, parent_told, payload_of_size};
 ghost use Rattle.responder.specs.Acts.{deletable, announced_as, announcement_told, storage_meant, each_ok};
 

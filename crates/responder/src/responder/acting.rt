@@ -1,10 +1,8 @@
 //! The operations that act.
-ghost use Rattle.std.specs.Prelude.{◌≡◌, ◌≤◌, [], ◌∷◌, Some};
+ghost use Rattle.std.specs.Prelude.{◌≡◌, ◌≤◌, Some};
 ghost use Rattle.wire.specs.Parameters.{listed};
-ghost use Rattle.protocol.specs.Storages.{first_storage};
 ghost use Rattle.protocol.specs.declared.session.Session.TheVariants.{Closed, Open};
-ghost use Rattle.protocol.specs.Acting.{parent_told, session_opened, session_closed, settled, announced, info_sent, object_deleted, object_sent, sent_for};
-ghost use Rattle.protocol.specs.Commands.{parameter};
+ghost use Rattle.protocol.specs.Acting.{session_opened, session_closed, settled, announced, info_sent, object_deleted, object_sent, sent_for};
 ghost use Rattle.responder.specs.Acts.{info_told};
 ghost use Rattle.responder.specs.Serving.{Serves};
 
@@ -91,7 +89,7 @@ impl<'w, 'r, W: WriteStore, R: ReadStore> Responder<'w, 'r, W, R> {
     }
 
     /// DeleteObject.
-    #[tactic(auto, unfolding(protocol::specs::Acting::object_deleted))]
+    #[tactic(auto, using(crate::proofs::Acts::deleted_is))]
     pub(crate) fn delete_object(
         &mut self,
         session: OpenSession,
