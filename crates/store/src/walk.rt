@@ -1,5 +1,5 @@
 //! Going through a store's files by its next-file question.
-ghost use Rattle.std.specs.Prelude.{◌≡◌, ℕ, List};
+ghost use Rattle.std.specs.Prelude.{◌≡◌, ◌+◌, ◌≤◌, ℕ, List};
 ghost use Rattle.std.specs.Iterator.{YieldsFirst, item_count};
 ghost use Rattle.store.specs.Changes.{past_last};
 ghost use Rattle.store.specs.Walks.{told, numbers, above};
@@ -82,9 +82,17 @@ pub fn files_of<S: ReadStore>(store: &S) -> Files<'_, S>
     Files { store, last: 0 }
 }
 
+/// The last file number, or 0 if there is no file.
+fn last_number<S: ReadStore>(store: &S) -> u32
+    ensures value { result + 1 ≡ past_last 1 (S.ReadStore.contents store.now).files }
+    ensures bound { result ≤ 0x7FFFFFFE }
+{
+    numbers_of(store).last().unwrap_or(0)
+}
+
 /// One more than the last file number; 1 if there is no file.
 pub fn past_last<S: ReadStore>(store: &S) -> u32
     ensures { result ≡ past_last 1 (S.ReadStore.contents store.now).files }
 {
-    numbers_of(store).last().unwrap_or(0) + 1
+    last_number(store) + 1
 }

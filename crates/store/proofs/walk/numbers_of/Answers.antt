@@ -1,7 +1,0 @@
-use Rattle.std.proofs.Common.{ap}
-use Rattle.store.specs.Walks.{numbers}
-use Rattle.store.proofs.Walks.{above_all}
-use Rattle.store.proofs.walk.numbers_of.Goals as goal
-
-pub returns : goal.returns
-returns g c = ap numbers (above_all 0 (g.S.ReadStore.contents c.args.store.now).files (g.S.ReadStore.sound c.args.store.now).ascending)
