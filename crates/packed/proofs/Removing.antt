@@ -23,7 +23,7 @@ use Rattle.lent.specs.Changed.{Cut}
 use Rattle.lent.specs.Kept.{held_in, rows}
 use Rattle.lent.proofs.Changing.{row_is, rows_cut, readable_cut, contents_cut}
 use Rattle.packed.specs.declared.gap.Gap.{Gap}
-use Rattle.packed.specs.Gaps.{start_after, row_after, rows_after, Closed}
+use Rattle.packed.specs.Gaps.{start_after, row_after, rows_after, Corrected, Closed}
 use Rattle.packed.specs.Layouts.{Packed}
 
 -- where a row of another file begins once the gap is closed: in front of the gap as before, behind it so much further down
@@ -133,7 +133,16 @@ module _ (m cut : Memory) (n i : ℕ) (row : Place) (k : Packed m) (e : Removabl
   pub total_within : m.total ≤ length m.bytes.now
   total_within = omega (arith, k.readable.sound.total_fits, k.readable.counted.1)
 
-  module _ (after : Memory) (gap : Gap) (starts : gap.start ≡ row.start) (long : gap.length ≡ row.file.length) (c : Closed cut after gap) where
+  module _ (mid after : Memory) (gap : Gap) (starts : gap.start ≡ row.start) (long : gap.length ≡ row.file.length) (o : Corrected cut mid gap) (c : Closed mid after gap) where
+    table : after.places.now ≡ rows_after gap cut.count cut.places.now
+    table = c.table ∙ o.table
+
+    count_is : after.count ≡ cut.count
+    count_is = c.count ∙ o.count
+
+    total_is : after.total ≡ cut.total
+    total_is = c.total ∙ o.total
+
     fits : gap.start + gap.length ≤ m.total
     fits = let r = row_in_front in omega arith
 
@@ -152,18 +161,20 @@ module _ (m cut : Memory) (n i : ℕ) (row : Place) (k : Packed m) (e : Removabl
 
     used_after : rows after ≡ map (row_after gap) qs
     used_after =
-        ap (λ z. take after.count z) c.table ∙ ap (λ j. take j (rows_after gap cut.count cut.places.now)) c.count
+        ap (λ z. take after.count z) table ∙ ap (λ j. take j (rows_after gap cut.count cut.places.now)) count_is
         ∙ used_corrected gap cut.count cut.places.now listed
         ∙ ap (map (row_after gap)) (rows_cut m cut n i row k.readable e p)
 
     area : after.bytes.now ≡ closed_up m.bytes.now gap.start gap.length m.total
-    area = c.area ∙ ap (λ z. closed_up z gap.start gap.length (cut.total + gap.length)) p.area ∙ ap (closed_up m.bytes.now gap.start gap.length) sum
+    area =
+        c.area ∙ ap (λ k. closed_up mid.bytes.now gap.start gap.length (k + gap.length)) o.total
+        ∙ ap (λ z. closed_up z gap.start gap.length (cut.total + gap.length)) (o.area ∙ p.area) ∙ ap (closed_up m.bytes.now gap.start gap.length) sum
 
     in_front_after : Within (rows after) after.total
     in_front_after =
         let P : Place → Type 0 = λ q. end_of q ≤ after.total in
         subst (All P) (sym used_after)
-        (All-map P (row_after gap) qs (λ j d h. let x = end_moved gap (get_or qs j d) m.total (all_move j d h) fits (others j d h) in let s = sum in omega (arith, c.total)))
+        (All-map P (row_after gap) qs (λ j d h. let x = end_moved gap (get_or qs j d) m.total (all_move j d h) fits (others j d h) in let s = sum in omega (arith, total_is)))
 
     apart_after : AllPairs Clear (rows after)
     apart_after =
@@ -175,7 +186,7 @@ module _ (m cut : Memory) (n i : ℕ) (row : Place) (k : Packed m) (e : Removabl
     bytes_after = ap length area ∙ closed_length m.bytes.now gap m.total fits total_within ∙ sym (ap length p.area)
 
     table_after : length after.places.now ≡ length cut.places.now
-    table_after = ap length c.table ∙ after_length gap cut.count cut.places.now listed
+    table_after = ap length table ∙ after_length gap cut.count cut.places.now listed
 
     files_after : (held_in after).files ≡ (held_in cut).files
     files_after =
@@ -194,9 +205,9 @@ module _ (m cut : Memory) (n i : ℕ) (row : Place) (k : Packed m) (e : Removabl
         let r = readable_cut m cut n i row k.readable e p in
         record {
           readable = record {
-            counted = (let t = table_after in omega (arith, c.count, r.counted.0), c.total ∙ r.counted.1 ∙ sym (ap total files_after));
+            counted = (let t = table_after in omega (arith, count_is, r.counted.0), total_is ∙ r.counted.1 ∙ sym (ap total files_after));
             sound = subst Sound (sym holds_same) r.sound;
-            within = λ j d h. let x = in_front_after j d h in let b = bytes_after in let s = sum in let t = total_within in omega (arith, c.total, ap length p.area);
+            within = λ j d h. let x = in_front_after j d h in let b = bytes_after in let s = sum in let t = total_within in omega (arith, total_is, ap length p.area);
           };
           in_front = in_front_after;
           apart = apart_after;
@@ -204,5 +215,5 @@ module _ (m cut : Memory) (n i : ℕ) (row : Place) (k : Packed m) (e : Removabl
               let s = sum_by_popped (λ (q : Place). q.file.length) row (rows m) qs one_less in
               let v = lengths_moved gap qs in
               let u = ap lengths_in used_after in
-              omega (arith, k.no_gap, c.total, p.total);
+              omega (arith, k.no_gap, total_is, p.total);
         }

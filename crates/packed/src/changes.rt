@@ -1,10 +1,10 @@
-//! The changes of a packed store's memory.
+//! The changes of a packed store's memory. A removal has a part that changes the table and one that moves the bytes.
 ghost use Rattle.std.specs.Prelude.{◌≡◌, ◌+◌, ◌<◌, ◌≤◌, false, length, map};
 ghost use Rattle.store.specs.Changes.{added, removed};
 ghost use Rattle.store.specs.Changing.{file_of, result_of, contents_after};
 ghost use Rattle.lent.specs.Changed.{Put};
 ghost use Rattle.lent.specs.Kept.{held_in, Readable};
-ghost use Rattle.packed.specs.Gaps.{row_after, Closed};
+ghost use Rattle.packed.specs.Gaps.{row_after, Leaves, Corrected, Closed};
 ghost use Rattle.packed.specs.Layouts.{Packed};
 
 use crate::gap::Gap;
@@ -34,15 +34,35 @@ fn correct_starts(places: &mut [Place], gap: Gap)
     }
 }
 
-// First the rows in use are corrected, then what lies behind the gap moves down. The bytes in front of the gap stay, and so do
+// The table part of a removal begins: the row at `i` is taken out, and its file's bytes are the gap, which lies in front of the total.
+fn cut_row(memory: &mut Memory<'_>, i: usize) -> Gap
+    requires packed { Packed memory.old }
+    requires used { i < memory.old.count }
+    ensures gap { Leaves memory.old memory.new i result }
+    ensures within { result.start + result.length ≤ memory.old.total }
+{
+    let place = memory.cut(i);
+    Gap {
+        start: place.start,
+        length: place.file.length,
+    }
+}
+
+// The table part ends: the rows in use begin where their files will lie. No byte is written.
+fn correct_rows(memory: &mut Memory<'_>, gap: Gap)
+    requires { memory.old.count ≤ length memory.old.places.now }
+    ensures { Corrected memory.old memory.new gap }
+{
+    correct_starts(&mut memory.places[..memory.count], gap);
+}
+
+// The byte part of a removal: what lies behind the gap moves down. The table stays, and so do the bytes in front of the gap and
 // those from the total on.
 fn close_gap(memory: &mut Memory<'_>, gap: Gap)
-    requires there { memory.old.count ≤ length memory.old.places.now }
     requires gap { gap.start ≤ memory.old.total }
     requires within { memory.old.total + gap.length ≤ length memory.old.bytes.now }
     ensures { Closed memory.old memory.new gap }
 {
-    correct_starts(&mut memory.places[..memory.count], gap);
     let end = memory.total as usize + gap.length as usize;
     area::close_up(memory.bytes, gap.start as usize, gap.length as usize, end);
 }
@@ -72,11 +92,8 @@ pub fn remove(memory: &mut Memory<'_>, number: u32) -> Result<(), StoreFault>
     ensures contents { held_in memory.new ≡ contents_after (held_in memory.old) (removed false number (held_in memory.old)) }
 {
     let i = memory.files().removable(number)?;
-    let place = memory.cut(i);
-    let gap = Gap {
-        start: place.start,
-        length: place.file.length,
-    };
+    let gap = cut_row(memory, i);
+    correct_rows(memory, gap);
     close_gap(memory, gap);
     Ok(())
 }
