@@ -1,5 +1,5 @@
 //! Dividing lent memory into slots.
-ghost use Rattle.std.specs.Prelude.{◌≡◌, ◌*◌, ◌≤◌, length};
+ghost use Rattle.std.specs.Prelude.{◌≡◌, ℕ, ◌*◌, ◌<◌, ◌≤◌, length, slice_index};
 ghost use Rattle.store.specs.Sound.{max_files, max_length};
 ghost use Rattle.table.specs.Tables.{starts_in};
 ghost use Rattle.slot.specs.Slots.{suits, Whole, Inside, Distinct};
@@ -17,6 +17,7 @@ pub fn is_suitable(rows: usize, bytes: usize) -> bool
 /// Gives each row the slot of its index.
 pub fn number_slots(places: &mut [Place])
     requires { length places.old ≤ max_files }
+    ensures numbered { (k : ℕ) → k < length places.new → slice_index (starts_in places.new) k ≡ k * max_length }
     ensures whole { Whole (starts_in places.new) }
     ensures inside { Inside (starts_in places.new) (length places.old * max_length) }
     ensures distinct { Distinct (starts_in places.new) }

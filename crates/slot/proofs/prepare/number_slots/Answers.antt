@@ -14,6 +14,9 @@ loop-i-preserved c = λ k h.
     ap (λ z. get_or z k 0) (map-set (λ (q : Place). q.start) c.loop-i.places c.loop-i.i _)
     ∙ fill_by_more (λ j. j * max_length) (starts_in c.loop-i.places) c.loop-i.i 0 b c.loop-i.invariant k h
 
+pub returns-clause-numbered : goal.returns-clause-numbered
+returns-clause-numbered c = λ k h. c.loop-i.invariant k (omega (arith, c.loop-i.auto.places))
+
 pub returns-clause-whole : goal.returns-clause-whole
 returns-clause-whole c =
     numbered_whole _ _ (slots_length c.loop-i.places ∙ c.loop-i.auto.places) (λ k h. c.loop-i.invariant k (omega arith))
