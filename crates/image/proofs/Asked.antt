@@ -1,5 +1,5 @@
 -- What the store in an image answers.
-use Rattle.std.proofs.Common.{◌≡◌, ℕ, ◌-◌, ◌<◌, ◌≤◌, Bool, true, false, cond, eqb, List, [], length, Some, None, Ok, Err, Option, Result, sym, refl, ap, ◌∙◌, subst, IsOk, get_or, Fits, w8, arith}
+use Rattle.std.proofs.Common.{◌≡◌, ℕ, ◌-◌, ◌<◌, ◌≤◌, Bool, true, false, cond, eqb, List, [], length, Some, None, Ok, Err, Option, Result, sym, refl, ap, ◌∙◌, subst, IsOk, is_err, get_or, Fits, w8, arith}
 use Rattle.std.specs.Option.{option_map}
 use Rattle.std.proofs.lemmas.Bool.{and_parts, eqb-true, false≢true}
 use Rattle.std.proofs.ByRecursion.{All-from_get_or}
@@ -9,8 +9,8 @@ use Rattle.store.specs.Sound.{Ascending}
 use Rattle.object.specs.Names.{name_in}
 use Rattle.object.specs.declared.protection.Protection.TheVariants.{ReadOnly}
 use Rattle.image.specs.HeldSound.{held_sound}
-use Rattle.image.specs.Held.{held, held_by, holds, accepted_with}
-use Rattle.image_format.specs.Parsed.{bind, parsed, full_of}
+use Rattle.image.specs.Held.{held, held_by, holds, accepted_with, verdict_of}
+use Rattle.image_format.specs.Parsed.{bind, files_from, parsed, full_of}
 use Rattle.image_format.specs.Walk.{Plain, sought, numbered, sought_at, ok_by, layout_of}
 use Rattle.image_format.specs.declared.fault.SpoiltImage.{SpoiltImage}
 use Rattle.image_format.proofs.Entries.{first_above, file_numbered, next_first, number_of, lookup_first}
@@ -76,13 +76,13 @@ module _ (image : List ℕ) (count sum : ℕ) (h : holds image count sum ≡ tru
   abbrev there : Open image count sum
   there = opened image count sum h
 
-  asked_next : (n : ℕ) → number_in (sought count image n) ≡ next_above n (held image).files
+  pub asked_next : (n : ℕ) → number_in (sought count image n) ≡ next_above n (held image).files
   asked_next n =
       ap (λ k. number_in (sought k image n)) (sym there.counted)
       ∙ numbers_found (sought (length there.files) image n) (first_above n there.files) (sought_walked n image there.files [] there.walked)
       ∙ sym (next_first n there.files) ∙ ap (λ c. next_above n c.files) (sym there.is)
 
-  asked_file : (n : ℕ) → Told n (sought_at count image n) (lookup n (held image).files)
+  pub asked_file : (n : ℕ) → Told n (sought_at count image n) (lookup n (held image).files)
   asked_file n =
       subst (λ c. Told n (sought_at count image n) (lookup n c.files)) (sym there.is)
       (subst (λ k. Told n (sought_at k image n) (lookup n there.files)) there.counted
@@ -144,3 +144,16 @@ held_image image = (refl, λ fits. by (parsed image) refl (All-from_get_or (λ b
         let a = accepted image c q in
         subst (IsImage image) (sym a.1 ∙ ap (λ d. full_of d.files) a.1) (accepted_image image c b q)
     by (Err y) q b o = absurd (false≢true o)
+
+-- the empty image holds nothing
+pub empty_held : parsed [] ≡ Ok (full_of [])
+unfolding parsed files_from
+empty_held = refl
+
+-- a refused image holds what the empty one does
+pub refused_held : (none image : List ℕ) (e : SpoiltImage) → none ≡ [] → Err e ≡ verdict_of (parsed image) → held none ≡ held image
+refused_held none image e n v = ap held n ∙ ap held_by empty_held ∙ by (parsed image) v
+  where
+    by : (r : Result Contents SpoiltImage) → Err e ≡ verdict_of r → full_of [] ≡ held_by r
+    by (Ok c) q = absurd (false≢true (sym (ap is_err q)))
+    by (Err z) q = refl

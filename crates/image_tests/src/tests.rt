@@ -19,7 +19,7 @@ const SAMPLE: [u8; 23] = [
 
 /// The place of the first wrong field, or `None` if the image is accepted.
 fn place(image: &[u8]) -> Option<usize> {
-    ImageStore::open(image).err().map(|fault| fault.place)
+    ImageStore::try_open(image).err().map(|fault| fault.place)
 }
 
 /// Copies file 3 of the sample into `room` bytes of 0xee, and checks the count and all four bytes.
@@ -30,7 +30,7 @@ fn check_copy(
     count: usize,
     after: [u8; 4],
 ) -> Result<(), Fail> {
-    let store = ImageStore::open(&SAMPLE)?;
+    let store = ImageStore::try_open(&SAMPLE)?;
     let mut into = [0xeeu8; 4];
     let Some(front) = into.get_mut(..room) else {
         return Err(Fail::new("no such room"));
@@ -43,7 +43,7 @@ fn check_copy(
 
 #[test]
 fn sample_is_described(rt: HostRuntime) -> Result<(), Fail> {
-    let store = ImageStore::open(&SAMPLE)?;
+    let store = ImageStore::try_open(&SAMPLE)?;
     assert_eq!(rt; store.capacity(), 2);
     assert_eq!(rt; store.limit(), 1);
     assert_eq!(rt; store.total(), 2);

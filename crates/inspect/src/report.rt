@@ -133,7 +133,7 @@ pub fn report_of(heap: Global, image: &[u8]) -> Result<Report, AllocError>
     ensures verdict { IfOk result (λ report. is_refused report ≡ is_err (verdict_of (parsed image.now))) }
     ensures refusal { IfOk result (λ report. IfErr (parsed image.now) (λ fault. report_text report ≡ Some (refusal_line (length image.now) fault))) }
 {
-    match ImageStore::open(image) {
+    match ImageStore::try_open(image) {
         Ok(store) => Ok(Report::Listing(Listing::of(heap, &store)?)),
         Err(fault) => Ok(Report::Refusal(Refusal {
             size: image.len(),

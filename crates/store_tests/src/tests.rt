@@ -22,8 +22,8 @@ fn long_image(last: u8) -> [u8; 151] {
 
 /// Whether two images, which must be accepted, hold the same.
 fn same(rt: &impl Abort, a: &[u8], b: &[u8]) -> bool {
-    let a = ImageStore::open(a).expect(rt, "the first is an image");
-    let b = ImageStore::open(b).expect(rt, "the second is an image");
+    let a = ImageStore::try_open(a).expect(rt, "the first is an image");
+    let b = ImageStore::try_open(b).expect(rt, "the second is an image");
     same_contents(&a, &b)
 }
 
