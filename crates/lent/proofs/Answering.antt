@@ -11,7 +11,7 @@ use Rattle.lent.specs.declared.files.HeldFiles.{HeldFiles}
 use Rattle.lent.specs.Asked.{RowOf, NoRow, HasRow}
 
 -- the number of a row is not absent
-there_at : (bs : List ℕ) (ps : List Place) (n i : ℕ) → Ascending 0 (files_in bs ps) → StandsAt ps n i → is_absent (lookup n (files_in bs ps)) ≡ false
+pub there_at : (bs : List ℕ) (ps : List Place) (n i : ℕ) → Ascending 0 (files_in bs ps) → StandsAt ps n i → is_absent (lookup n (files_in bs ps)) ≡ false
 there_at bs [] n i a s = absurd (omega (arith, s.used))
 there_at bs (p ∷ ps) n i a s = ap is_absent (lookup_at bs (p ∷ ps) 0 n i p a s.used s.here)
 

@@ -8,7 +8,7 @@ use Rattle.protocol.proofs.Alike.{replies_tell_contents}
 use Rattle.protocol.proofs.Keeping.{handles_keep_bytes}
 use Rattle.protocol.proofs.Staying.{stores_kept, one_at_a_time, sessions_fit}
 
-lawful : (p : Storages) → SoundStorages p → Lawful p
+pub lawful : (p : Storages) → SoundStorages p → Lawful p
 lawful p s = record {
   equal_alike = λ q t e. replies_tell_contents.equal_alike p q s t e;
   alike_equal = λ q t a. replies_tell_contents.alike_equal p q s t a;
