@@ -32,7 +32,7 @@ impl fmt::Display for Unit {
 
     fn fmt<W: fmt::Write>(&self, f: &mut fmt::Formatter<W>) -> fmt::Result {
         match char::from_u32(u32::from(self.0)) {
-            Some(c) if !c.is_control() => f.write_char(c),
+            Some(c) if !c.is_control() => f.write_str(c.encode_utf8(&mut [0; 4])),
             _ => write!(f, "\\u{{{:x}}}", self.0),
         }
     }
@@ -47,7 +47,7 @@ impl<U: Copy + Into<Unit>> fmt::Display for Quoted<'_, U> {
         f.write_char('"')?;
         for unit in self.0 {
             let unit: Unit = (*unit).into();
-            write!(f, "{unit}")?;
+            fmt::Display::fmt(&unit, f)?;
         }
         f.write_char('"')
     }

@@ -33,7 +33,7 @@ impl fmt::Display for Sign {
 
     fn fmt<W: fmt::Write>(&self, f: &mut fmt::Formatter<W>) -> fmt::Result {
         match *self {
-            Sign::Plain(c) => f.write_char(c),
+            Sign::Plain(c) => f.write_str(c.encode_utf8(&mut [0; 4])),
             Sign::Escaped(unit) => write!(f, "\\u{{{unit:04x}}}"),
         }
     }
