@@ -1,11 +1,12 @@
 -- What the searches of the library find in a table.
-use Rattle.std.proofs.Common.{◌≡◌, ℕ, ◌<◌, ◌≤◌, true, false, ◌||◌, eqb, leb, List, [], ◌∷◌, length, get_or, Ok, Err, Result, refl, ap, ◌∙◌, ⊎_elim, arith}
+use Rattle.std.proofs.Common.{◌≡◌, ℕ, suc, ◌+◌, ◌<◌, ◌≤◌, true, false, ◌||◌, eqb, leb, List, [], ◌∷◌, length, get_or, drop, Ok, Err, Result, sym, refl, ap, ◌∙◌, ⊎_elim, add-one, arith, drop-cons}
 use Rattle.std.specs.List.{list_any}
 use Rattle.std.specs.List.Sorted.{IsNonDecreasingBy, IsPartitionPoint, IsBinarySearchResult, IsSearchInRange}
 use Rattle.std.specs.Option.{MatchOption}
 use Rattle.std.specs.Ordering.{ordering_index, nat_cmp}
 use Rattle.std.specs.Result.{result_ok}
-use Rattle.std.proofs.lemmas.Bool.{cases_eq, cases_lt, leb-true}
+use Rattle.std.proofs.lemmas.Bool.{cases_eq, cases_lt, leb-true, eq-eqb, ne_eqb}
+use Rattle.std.proofs.lemmas.List.{drop_all}
 use Rattle.std.proofs.lemmas.Bool.Decides.{nat_tests}
 use Rattle.store.specs.Changes.{has_children}
 use Rattle.table.specs.declared.place.Place.{Place}
@@ -66,6 +67,26 @@ module _ (n : ℕ) where
       (λ (q : k < i). let x = is_less (get_or rows k p).number (parted.0 k p (omega arith) q) in omega arith)
       (λ (q : i ≤ k). let x = is_greater (get_or rows k p).number (parted.1 k p q l) in omega arith)
       (cases_lt k i)
+
+-- the children of a number, from a row on
+pub child_here : (n : ℕ) (bs : List ℕ) (ps : List Place) (i : ℕ) (p : Place) → i < length ps → p ≡ get_or ps i p → p.file.parent ≡ n
+    → has_children n (files_in bs (drop i ps)) ≡ true
+child_here n bs ps i p h e q =
+    let r : (get_or ps i p).file.parent ≡ n = ap (λ (x : Place). x.file.parent) (sym e) ∙ q in
+    ap (λ z. has_children n (files_in bs z)) (drop-cons ps i p h)
+    ∙ ap (λ t. t || has_children n (files_in bs (drop (suc i) ps))) (eq-eqb (get_or ps i p).file.parent n r)
+
+pub child_past : (n : ℕ) (bs : List ℕ) (ps : List Place) (i : ℕ) (p : Place) → i < length ps → p ≡ get_or ps i p → (p.file.parent ≡ n → ⊥)
+    → has_children n (files_in bs (drop i ps)) ≡ has_children n (files_in bs (drop (i + 1) ps))
+child_past n bs ps i p h e q =
+    let r : (get_or ps i p).file.parent ≡ n → ⊥ = λ x. q (ap (λ (y : Place). y.file.parent) e ∙ x) in
+    let s : suc i ≡ i + 1 = sym (add-one i) in
+    ap (λ z. has_children n (files_in bs z)) (drop-cons ps i p h)
+    ∙ ap (λ t. t || has_children n (files_in bs (drop (suc i) ps))) (ne_eqb (get_or ps i p).file.parent n r)
+    ∙ ap (λ k. has_children n (files_in bs (drop k ps))) s
+
+pub child_none : (n : ℕ) (bs : List ℕ) (ps : List Place) (i : ℕ) → length ps ≤ i → has_children n (files_in bs (drop i ps)) ≡ false
+child_none n bs ps i h = ap (λ z. has_children n (files_in bs z)) (drop_all i ps h)
 
 -- the children of a number, row by row
 pub any_child : (n : ℕ) (bs : List ℕ) (ps : List Place) → list_any (λ (p : Place). eqb p.file.parent n) ps ≡ has_children n (files_in bs ps)

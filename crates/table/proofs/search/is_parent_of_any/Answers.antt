@@ -1,12 +1,15 @@
-use Rattle.std.proofs.Common.{eqb, ◌∙◌, rules}
-use Rattle.std.proofs.lemmas.Iterator.{YieldsList-from_slice}
-use Rattle.std.proofs.lemmas.Iterator.Search.{any_from_yields_List}
-use Rattle.table.specs.declared.place.Place.{Place}
-use Rattle.table.proofs.Searches.{any_child}
+use Rattle.std.proofs.Common.{sym, ◌∙◌}
+use Rattle.table.proofs.Searches.{child_here, child_past, child_none}
 use Rattle.table.proofs.search.is_parent_of_any.Goals as goal
+
+pub returns-then-place-number : goal.returns-then-place-number
+returns-then-place-number c = λ bytes.
+    sym (c.loop-place.invariant bytes ∙ child_here c.args.number bytes c.args.places.now c.loop-place.place-index c.place-item.result c.loop-place-test.true c.place-item.is c.if-place-number.true)
+
+pub loop-place-preserved : goal.loop-place-preserved
+loop-place-preserved c = λ bytes.
+    c.loop-place.invariant bytes ∙ child_past c.args.number bytes c.args.places.now c.loop-place.place-index c.place-item.result c.loop-place-test.true c.place-item.is c.if-place-number.false
 
 pub returns : goal.returns
 returns c = λ bytes.
-    any_from_yields_List (λ (p : Place). eqb p.file.parent c.args.number) _ _ _ c.any.ensures.ran
-    (YieldsList-from_slice c.args.places.now cc) (λ x b q k. search rules)
-    ∙ any_child c.args.number bytes c.args.places.now
+    sym (c.loop-place.invariant bytes ∙ child_none c.args.number bytes c.args.places.now c.loop-place.place-index c.loop-place-test.false)
