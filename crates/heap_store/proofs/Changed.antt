@@ -1,9 +1,9 @@
 -- What rows and bytes hold after a file is put in or taken out.
-use Rattle.std.proofs.Common.{◌≡◌, ℕ, suc, ◌+◌, ◌<◌, ◌≤◌, Bool, true, false, cond, not, eqb, ltb, List, [], ◌∷◌, ◌++◌, length, get_or, take, drop, Some, sym, refl, ap, ◌∙◌, subst, add_assoc, arith, length-drop, length-take-le, take-take, drop-drop, take_at, drop_at}
+use Rattle.std.proofs.Common.{◌≡◌, ℕ, suc, ◌+◌, ◌<◌, ◌≤◌, Bool, true, false, cond, not, eqb, ltb, List, [], ◌∷◌, ◌++◌, length, get_or, take, drop, Some, sym, refl, ap, ◌∙◌, subst, add_assoc, arith, length-append, length-drop, length-take-le, take-take, drop-drop, take_at, drop_at}
 use lib.Seq.{take-append-le}
 use Rattle.std.specs.List.{insert, remove, position_or_len}
 use Rattle.std.proofs.lemmas.List.{drop-take, drop-append-le}
-use Rattle.std.proofs.lemmas.List.Sums.{sum_by-take-le, sum_by_more, sum_by_more_le}
+use Rattle.std.proofs.lemmas.List.Sums.{sum_by-take-le, sum_by-remove, sum_by_more, sum_by_more_le}
 use Rattle.store.specs.Contents.{File, Entry}
 use Rattle.store.specs.Changes.{inserted, without}
 use Rattle.store.specs.Changing.{file_of}
@@ -133,3 +133,12 @@ goes_out n rs bs i start end d h e s t =
     let more = sum_by_more (λ (r : Row). r.file.length) rs i d (subst (λ k. k < length rs) at within) in
     let stop : end ≡ taken (take i rs) + (get_or rs i d).file.length = omega arith in
     rw (s, stop, ← at) (files_removed n rs bs d h within)
+
+-- what is left has as many bytes as its rows say
+pub stays_filled : (rs : List Row) (bs : List ℕ) (i start end : ℕ) (d : Row) → taken rs ≡ length bs → i < length rs
+    → start ≡ taken (take i rs) → end ≡ taken (take (i + 1) rs) → taken (remove rs i) ≡ length (take start bs ++ drop end bs)
+stays_filled rs bs i start end d h b s t =
+    let more = sum_by_more (λ (r : Row). r.file.length) rs i d b in
+    let below = sum_by_more_le (λ (r : Row). r.file.length) rs i d b in
+    let left = sum_by-remove (λ (r : Row). r.file.length) rs i d b in
+    omega (arith, length-append (take start bs) (drop end bs), length-drop end bs, length-take-le start bs (omega arith))

@@ -1,3 +1,4 @@
 pub mod Changed
 pub mod Changes
 pub mod Files
+pub mod Scans

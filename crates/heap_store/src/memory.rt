@@ -7,8 +7,8 @@ ghost use Rattle.store.specs.Changing.{file_of};
 ghost use Rattle.heap_store.specs.InMemory.{InMemory};
 ghost use Rattle.heap_store.specs.Rows.{taken, files_in};
 
-use crate::row::{Row, have_parent, number_above, rank_for, rank_of, span, taken};
-use crate::splice::put_in;
+use crate::row::{Row, have_parent, number_above, place_for, rank_of, span_of};
+use crate::splice::{put_in, take_out};
 use std::alloc::{AllocError, Global};
 use std::marker::Model;
 use store::info::{FileInfo, NewFile};
@@ -85,11 +85,8 @@ impl Memory {
     pub(crate) fn bytes_of(&self, number: u32) -> &[u8]
         ensures { result.now ≡ bytes_of (lookup number self.now.files) }
     {
-        match rank_of(&self.rows, number) {
-            Some(rank) => {
-                let place = span(&self.rows, rank);
-                &self.bytes[place]
-            }
+        match span_of(&self.rows, number) {
+            Some((_, place)) => &self.bytes[place],
             None => &[],
         }
     }
@@ -104,24 +101,22 @@ impl Memory {
         ensures row_room { self.old.row_room ≤ self.new.row_room }
         ensures byte_room { self.old.byte_room ≤ self.new.byte_room }
     {
-        let rank = rank_for(&self.rows, number);
-        let start = taken(&self.rows[..rank]);
+        let (rank, start) = place_for(&self.rows, number);
         let file = file.with_length(run.len() as u32);
         self.rows.insert(rank, Row { number, file }).unwrap();
         put_in(&mut self.bytes, start, run);
     }
 
     /// Removes a file, if it is there.
-    #[tactic(auto, using(crate::proofs::Changed::goes_out, crate::proofs::Files::nothing_goes))]
+    #[tactic(auto, using(crate::proofs::Changed::goes_out, crate::proofs::Changed::stays_filled, crate::proofs::Files::nothing_goes))]
     pub(crate) fn remove(&mut self, number: u32)
         ensures files { self.new.files ≡ without number self.old.files }
         ensures row_room { self.old.row_room ≤ self.new.row_room }
         ensures byte_room { self.old.byte_room ≤ self.new.byte_room }
     {
-        if let Some(rank) = rank_of(&self.rows, number) {
-            let place = span(&self.rows, rank);
+        if let Some((rank, place)) = span_of(&self.rows, number) {
             self.rows.remove(rank);
-            self.bytes.drain(place);
+            take_out(&mut self.bytes, place);
         }
     }
 }

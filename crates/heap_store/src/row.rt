@@ -1,5 +1,5 @@
 //! Rows, and the questions to a list of them.
-ghost use Rattle.std.specs.Prelude.{◌≡◌, ◌+◌, ◌^◌, ◌<◌, ◌≤◌, ◌==◌, length, take, map, nat_lt, find, IfSome};
+ghost use Rattle.std.specs.Prelude.{◌≡◌, ◌+◌, ◌^◌, ◌<◌, ◌≤◌, ◌==◌, length, take, map, nat_lt, find, Some, None, IfSome, MatchOption};
 ghost use Rattle.std.specs.List.{list_any};
 ghost use Rattle.heap_store.specs.Rows.{taken, rank_of, rank_for};
 
@@ -13,27 +13,6 @@ pub(crate) struct Row {
     pub file: FileInfo,
 }
 
-/// How many bytes the rows' files have in all.
-pub(crate) fn taken(rows: &[Row]) -> usize
-    requires { taken rows.now < 2 ^ 63 }
-    ensures { result ≡ taken rows.now }
-{
-    rows.iter().map(|row| row.file.length as usize).sum()
-}
-
-/// Where the bytes of a row's file begin and end, among those of all rows.
-pub(crate) fn span(rows: &[Row], rank: usize) -> Range<usize>
-    requires rank { rank < length rows.now }
-    requires small { taken rows.now < 2 ^ 63 }
-    ensures start { result.start ≡ taken (take rank rows.now) }
-    ensures end { result.end ≡ taken (take (rank + 1) rows.now) }
-    ensures order { result.start ≤ result.end }
-    ensures within { result.end ≤ taken rows.now }
-{
-    let start = taken(&rows[..rank]);
-    start..start + rows[rank].file.length as usize
-}
-
 /// Which row has this number, if one does.
 #[tactic(auto, unfolding(crate::specs::Rows::rank_of))]
 pub(crate) fn rank_of(rows: &[Row], number: u32) -> Option<usize>
@@ -43,13 +22,45 @@ pub(crate) fn rank_of(rows: &[Row], number: u32) -> Option<usize>
     rows.iter().position(|row| row.number == number)
 }
 
-/// How many rows a new one stands behind: those before the first of a larger number.
-#[tactic(auto, unfolding(crate::specs::Rows::rank_for))]
-pub(crate) fn rank_for(rows: &[Row], number: u32) -> usize
-    ensures rank { result ≡ rank_for number rows.now }
-    ensures within { result ≤ length rows.now }
+/// Which row has this number, and where the bytes of its file begin and end among those of all rows, if one does.
+// In one pass: to search, and then to sum the rows before, is to go through them twice.
+#[tactic(auto, using(crate::proofs::Scans::sought))]
+pub(crate) fn span_of(rows: &[Row], number: u32) -> Option<(usize, Range<usize>)>
+    requires small { taken rows.now < 2 ^ 63 }
+    ensures rank { MatchOption result (rank_of number rows.now ≡ None) (λ f. rank_of number rows.now ≡ Some f.0) }
+    ensures start { IfSome result (λ f. f.1.start ≡ taken (take f.0 rows.now)) }
+    ensures end { IfSome result (λ f. f.1.end ≡ taken (take (f.0 + 1) rows.now)) }
+    ensures order { IfSome result (λ f. f.1.start ≤ f.1.end) }
+    ensures within { IfSome result (λ f. (f.0 < length rows.now) × (f.1.end ≤ taken rows.now)) }
 {
-    rows.iter().take_while(|row| row.number <= number).count()
+    let mut start = 0;
+    for (rank, row) in rows.iter().enumerate() {
+        let end = start + row.file.length as usize;
+        if row.number == number {
+            return Some((rank, start..end));
+        }
+        start = end;
+    }
+    None
+}
+
+/// How many rows a new one stands behind, those before the first of a larger number, and how many bytes their files have.
+// In one pass, too.
+#[tactic(auto, using(crate::proofs::Scans::placed))]
+pub(crate) fn place_for(rows: &[Row], number: u32) -> (usize, usize)
+    requires small { taken rows.now < 2 ^ 63 }
+    ensures rank { result.0 ≡ rank_for number rows.now }
+    ensures start { result.1 ≡ taken (take result.0 rows.now) }
+    ensures within { (result.0 ≤ length rows.now) × (result.1 ≤ taken rows.now) }
+{
+    let mut start = 0;
+    for (rank, row) in rows.iter().enumerate() {
+        if number < row.number {
+            return (rank, start);
+        }
+        start += row.file.length as usize;
+    }
+    (rows.len(), start)
 }
 
 /// The first number above `number`, if there is one.
