@@ -30,6 +30,7 @@ impl From<[u8; 2]> for Unit {
 impl fmt::Display for Unit {
     ghost output = { λ unit. Some (unit_text unit.0) };
 
+    // A character writes its own bytes: `write_char` would check them again.
     fn fmt<W: fmt::Write>(&self, f: &mut fmt::Formatter<W>) -> fmt::Result {
         match char::from_u32(u32::from(self.0)) {
             Some(c) if !c.is_control() => f.write_str(c.encode_utf8(&mut [0; 4])),

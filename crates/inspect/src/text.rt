@@ -31,6 +31,7 @@ impl From<u16> for Sign {
 impl fmt::Display for Sign {
     ghost output = { λ sign. Some (sign_text sign) };
 
+    // A character writes its own bytes: `write_char` would check them again.
     fn fmt<W: fmt::Write>(&self, f: &mut fmt::Formatter<W>) -> fmt::Result {
         match *self {
             Sign::Plain(c) => f.write_str(c.encode_utf8(&mut [0; 4])),
