@@ -1,25 +1,31 @@
 -- What the questions answer.
-use Rattle.std.proofs.Common.{◌≡◌, ℕ, ◌<◌, ◌≤◌, false, List, [], ◌∷◌, length, get_or, Some, None, Option, MatchOption, sym, ap, ◌∙◌, arith}
+use Rattle.std.proofs.Common.{◌≡◌, ℕ, zero, suc, ◌<◌, ◌≤◌, false, List, [], ◌∷◌, length, get_or, Some, None, Option, MatchOption, sym, ap, ◌∙◌, ⊎_elim, arith}
+use Rattle.std.proofs.lemmas.Bool.{cases_eq}
 use Rattle.store.specs.Contents.{lookup, next_above}
-use Rattle.store.specs.Sound.{Ascending}
 use Rattle.store.specs.Changes.{is_absent}
+use Rattle.store.proofs.Lookups.{lookup_here, lookup_past}
 use Rattle.table.specs.declared.place.Place.{Place}
 use Rattle.table.specs.Found.{StandsAt, Missing, Ranked}
-use Rattle.table.specs.Tables.{files_in}
+use Rattle.table.specs.Tables.{entry_at, files_in, numbers_in}
 use Rattle.table.proofs.Columns.{numbers_getD, lookup_at, lookup_missing, next_at, next_none}
 use Rattle.lent.specs.declared.files.HeldFiles.{HeldFiles}
 use Rattle.lent.specs.Asked.{RowOf, NoRow, HasRow}
 
 -- the number of a row is not absent
-pub there_at : (bs : List ℕ) (ps : List Place) (n i : ℕ) → Ascending 0 (files_in bs ps) → StandsAt ps n i → is_absent (lookup n (files_in bs ps)) ≡ false
-there_at bs [] n i a s = absurd (omega (arith, s.used))
-there_at bs (p ∷ ps) n i a s = ap is_absent (lookup_at bs (p ∷ ps) 0 n i p a s.used s.here)
+pub there_at : (bs : List ℕ) (ps : List Place) (n i : ℕ) → i < length ps → get_or (numbers_in ps) i 0 ≡ n → is_absent (lookup n (files_in bs ps)) ≡ false
+there_at bs [] n i h e = absurd (omega arith)
+there_at bs (p ∷ ps) n zero h e = ap is_absent (lookup_here (entry_at bs p) (files_in bs ps) n e)
+there_at bs (p ∷ ps) n (suc i) h e =
+    ⊎_elim
+    (λ (q : p.number ≡ n). ap is_absent (lookup_here (entry_at bs p) (files_in bs ps) n q))
+    (λ (q : p.number ≡ n → ⊥). ap is_absent (lookup_past (entry_at bs p) (files_in bs ps) n q) ∙ there_at bs ps n i (omega arith) e)
+    (cases_eq p.number n)
 
 -- what a search by number says of the files
 pub indexed : (v : HeldFiles) (n : ℕ) (r : Option ℕ) → MatchOption r (Missing v.places.now n) (λ i. StandsAt v.places.now n i)
     → MatchOption r (NoRow v n) (λ i. HasRow v n i)
 indexed v n None m = lookup_missing v.bytes.now v.places.now n m
-indexed v n (Some i) s = record { row = s; there = there_at v.bytes.now v.places.now n i v.sound.ascending s }
+indexed v n (Some i) s = record { row = s; there = there_at v.bytes.now v.places.now n i s.used s.here }
 
 -- the row at the index that a number was found at
 pub row_at : (v : HeldFiles) (n i : ℕ) (d : Place) → HasRow v n i → RowOf v n (get_or v.places.now i d)

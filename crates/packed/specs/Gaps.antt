@@ -18,19 +18,21 @@ row_after gap p = record { number = p.number; file = p.file; start = start_after
 abbrev pub rows_after : Gap → ℕ → List Place → List Place
 rows_after gap count ps = map (row_after gap) (take count ps) ++ drop count ps
 
--- the row at `index` is taken out, and the gap is where its file's bytes lie
-pub record Leaves (before after : Memory) (index : ℕ) (gap : Gap) : Type 0 where
-  pub row : Place
-  pub cut : Cut before after index row
-  pub begins : gap.start ≡ row.start
-  pub long : gap.length ≡ row.file.length
-
 -- the rows in use are corrected for the gap. No byte changes
 pub record Corrected (before after : Memory) (gap : Gap) : Type 0 where
   pub table : after.places.now ≡ rows_after gap before.count before.places.now
   pub area : after.bytes.now ≡ before.bytes.now
   pub count : after.count ≡ before.count
   pub total : after.total ≡ before.total
+
+-- the row at `index` is taken out, the gap is where its file's bytes lie, and the rows in use are corrected for it
+pub record Leaves (before after : Memory) (index : ℕ) (gap : Gap) : Type 0 where
+  pub row : Place
+  pub between : Memory
+  pub cut : Cut before between index row
+  pub begins : gap.start ≡ row.start
+  pub long : gap.length ≡ row.file.length
+  pub corrected : Corrected between after gap
 
 -- the gap in front of the total is closed: the bytes behind it have moved down. No row changes
 pub record Closed (before after : Memory) (gap : Gap) : Type 0 where

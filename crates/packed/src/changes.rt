@@ -1,10 +1,11 @@
 //! The changes of a packed store's memory. A removal has a part that changes the table and one that moves the bytes.
-ghost use Rattle.std.specs.Prelude.{◌≡◌, ◌+◌, ◌<◌, ◌≤◌, false, length, map};
+ghost use Rattle.std.specs.Prelude.{◌≡◌, ◌+◌, ◌-◌, ◌<◌, ◌≤◌, false, length, map};
 ghost use Rattle.store.specs.Changes.{added, removed};
 ghost use Rattle.store.specs.Changing.{file_of, result_of, contents_after};
 ghost use Rattle.lent.specs.Changed.{Put};
 ghost use Rattle.lent.specs.Kept.{held_in, Readable};
-ghost use Rattle.packed.specs.Gaps.{row_after, Leaves, Corrected, Closed};
+ghost use Rattle.table.specs.Rows.{rows_without};
+ghost use Rattle.packed.specs.Gaps.{row_after, rows_after, Leaves, Corrected, Closed};
 ghost use Rattle.packed.specs.Layouts.{Packed};
 
 use crate::gap::Gap;
@@ -34,26 +35,33 @@ fn correct_starts(places: &mut [Place], gap: Gap)
     }
 }
 
-// The table part of a removal begins: the row at `i` is taken out, and its file's bytes are the gap, which lies in front of the total.
-fn cut_row(memory: &mut Memory<'_>, i: usize) -> Gap
-    requires packed { Packed memory.old }
-    requires used { i < memory.old.count }
-    ensures gap { Leaves memory.old memory.new i result }
-    ensures within { result.start + result.length ≤ memory.old.total }
-{
-    let place = memory.cut(i);
-    Gap {
-        start: place.start,
-        length: place.file.length,
-    }
-}
-
-// The table part ends: the rows in use begin where their files will lie. No byte is written.
+// The rows in use begin where their files lie once the gap is closed. No byte is written.
 fn correct_rows(memory: &mut Memory<'_>, gap: Gap)
     requires { memory.old.count ≤ length memory.old.places.now }
     ensures { Corrected memory.old memory.new gap }
 {
     correct_starts(&mut memory.places[..memory.count], gap);
+}
+
+// The table part of a removal: the row at `i` is taken out, and the others are corrected for the gap that its file's bytes are. It
+// lies in front of the total.
+fn cut_row(memory: &mut Memory<'_>, i: usize) -> Gap
+    requires packed { Packed memory.old }
+    requires used { i < memory.old.count }
+    ensures gap { Leaves memory.old memory.new i result }
+    ensures within { result.start + result.length ≤ memory.old.total }
+    ensures table { memory.new.places.now ≡ rows_after result (memory.old.count - 1) (rows_without memory.old.places.now memory.old.count i) }
+    ensures bytes { memory.new.bytes.now ≡ memory.old.bytes.now }
+    ensures count { memory.new.count + 1 ≡ memory.old.count }
+    ensures total { memory.new.total + result.length ≡ memory.old.total }
+{
+    let place = memory.cut(i);
+    let gap = Gap {
+        start: place.start,
+        length: place.file.length,
+    };
+    correct_rows(memory, gap);
+    gap
 }
 
 // The byte part of a removal: what lies behind the gap moves down. The table stays, and so do the bytes in front of the gap and
@@ -93,7 +101,6 @@ pub fn remove(memory: &mut Memory<'_>, number: u32) -> Result<(), StoreFault>
 {
     let i = memory.files().removable(number)?;
     let gap = cut_row(memory, i);
-    correct_rows(memory, gap);
     close_gap(memory, gap);
     Ok(())
 }
